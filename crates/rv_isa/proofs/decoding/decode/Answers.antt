@@ -1,0 +1,9 @@
+use Rattle.rv_isa.proofs.RoundTrip.{IfSome-formed, IfSome-registers}
+use Rattle.rv_isa.proofs.decoding.decode.Goals as goal
+use Rattle.std.proofs.Common.{arith}
+
+pub returns-clause-registers : goal.returns-clause-registers
+returns-clause-registers c = IfSome-registers c.args.word (omega arith) c.read.result c.read.ensures
+
+pub returns-clause-formed : goal.returns-clause-formed
+returns-clause-formed c = IfSome-formed c.args.word (omega arith) c.read.result c.read.ensures
