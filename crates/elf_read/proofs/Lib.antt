@@ -1,0 +1,12 @@
+pub mod FiveSections
+pub mod Head
+pub mod HeapNames
+pub mod Entries
+pub mod FirstForm
+pub mod FirstFacts
+pub mod EndedNames
+pub mod Finds
+pub mod Sizes
+pub mod Below
+pub mod TablesInside
+pub mod ReadableFacts

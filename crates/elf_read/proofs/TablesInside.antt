@@ -1,0 +1,101 @@
+-- What passed checks of the sections say of the symbol table and its strings.
+use Rattle.std.proofs.Common.{◌≡◌, ◌≢◌, ℕ, zero, suc, ◌+◌, ◌<◌, ◌≤◌, Bool, true, false, not, ◌&&◌, ◌||◌, List, [], ◌∷◌, length, get_or, nat_eq, nat_lt, refl, ◌∙◌, arith, inl, inr, Some, None, ◌%◌}
+use Rattle.std.specs.List.{find, slice_get}
+use Rattle.std.proofs.lemmas.Bool.{cases_lt}
+use Rattle.std.proofs.lemmas.Bool.Decides.{nat_tests}
+use Rattle.std.proofs.lemmas.List.Quantifiers.{position-Some}
+use Rattle.std.proofs.lemmas.Option.{slice_get-get_or, slice_get_past}
+use Rattle.elf_spec.specs.declared.Section.{Section}
+use Rattle.elf_spec.specs.Relocations.{is_at}
+use Rattle.elf_spec.specs.Tables.{is_symtab, symtab_index}
+use Rattle.elf_read.specs.declared.refusals.ElfRefusal.TheVariants.{SectionOut}
+use Rattle.elf_read.specs.Checks.{is_bad_table, is_strtab, leaves_file}
+use Rattle.elf_read.specs.Refusals.{section_from, section_out}
+use Rattle.elf_read.specs.Symbols.{IsTables}
+use Rattle.elf_read.proofs.Finds.{find_is, find_none, none_passes}
+
+abbrev is_bad : ℕ → List Section → ℕ → Section → Bool
+is_bad bytes all i s = leaves_file bytes s || (is_at (symtab_index all) i && is_bad_table all s)
+
+-- each section passes where none is refused
+good : (bytes : ℕ) (all : List Section) (i : ℕ) (ss : List Section) → section_from bytes all i ss ≡ None
+    → (k : ℕ) (d : Section) → k < length ss → is_bad bytes all (i + k) (get_or ss k d) ≡ false
+good bytes all i [] h k d l = absurd (omega arith)
+good bytes all i (s ∷ ss) h k d l = decide (is_bad bytes all i s) refl (λ e j m. good bytes all (i + 1) ss e j d m) k l
+  where
+    decide : (b : Bool) → is_bad bytes all i s ≡ b
+        → (section_from bytes all (i + 1) ss ≡ None → (j : ℕ) → j < length ss → is_bad bytes all (i + 1 + j) (get_or ss j d) ≡ false)
+        → (k : ℕ) → k < length (s ∷ ss) → is_bad bytes all (i + k) (get_or (s ∷ ss) k d) ≡ false
+    decide true e ih k l = absurd (let q : Some (SectionOut i) ≡ None = rw e at h in cc)
+    decide false e ih zero l = let z : i + 0 ≡ i = omega arith in rw z e
+    decide false e ih (suc k) l =
+        let o : i + 1 + k ≡ i + suc k = omega arith in
+        let r : section_from bytes all (i + 1) ss ≡ None = rw e at h in
+        rw o at (ih r k (omega arith))
+
+pub none_found : (ss : List Section) → symtab_index ss ≡ None → find is_symtab ss ≡ None
+none_found ss h = find_none is_symtab ss (none_passes is_symtab ss h)
+
+or_false : (a b : Bool) → (a || b) ≡ false → (a ≡ false) × (b ≡ false)
+or_false true b h = absurd (cc)
+or_false false b h = (refl, h)
+
+inside : (k o n bytes : ℕ) → (not (nat_eq k 0) && (not (nat_eq k 8) && nat_lt bytes (o + n))) ≡ false → k ≢ 0 → k ≢ 8 → o + n ≤ bytes
+inside k o n bytes h a b = grind (arith, nat_tests)
+
+not_false : (b : Bool) → not b ≡ false → b ≡ true
+not_false true h = refl
+not_false false h = absurd (cc)
+
+-- the section at a place leaves the file not
+pub stays : (bytes : ℕ) (ss : List Section) (i : ℕ) (d : Section) → section_out bytes ss ≡ None → i < length ss
+    → leaves_file bytes (get_or ss i d) ≡ false
+unfolding section_out
+stays bytes ss i d h l =
+    let g : is_bad bytes ss (0 + i) (get_or ss i d) ≡ false = good bytes ss 0 ss h i d l in
+    (or_false (leaves_file bytes (get_or ss i d)) _ g).0
+
+-- the symbol table's link names a string table
+link_is : (bytes : ℕ) (ss : List Section) (i : ℕ) (d : Section) → section_out bytes ss ≡ None → symtab_index ss ≡ Some i
+    → is_strtab (slice_get ss (get_or ss i d).link) ≡ true
+unfolding section_out
+link_is bytes ss i d h e =
+    let p : (i < length ss) × (is_symtab (get_or ss i d) ≡ true) × ((k : ℕ) → k < i → is_symtab (get_or ss k d) ≡ false) = position-Some is_symtab ss i d e in
+    let g : is_bad bytes ss (0 + i) (get_or ss i d) ≡ false = good bytes ss 0 ss h i d p.0 in
+    let z : 0 + i ≡ i = omega arith in
+    let t : nat_eq i i ≡ true = grind (arith, nat_tests) in
+    let b : (is_at (symtab_index ss) (0 + i) && is_bad_table ss (get_or ss i d)) ≡ false = (or_false (leaves_file bytes (get_or ss i d)) _ g).1 in
+    let f : is_bad_table ss (get_or ss i d) ≡ false = rw (z, e, t) at b in
+    not_false _ (or_false (not (nat_eq ((get_or ss i d).size % 16) 0)) _ (or_false (not (nat_eq (get_or ss i d).entry_size 16)) _ f).1).1
+
+strtab_inside : (ss : List Section) (i : ℕ) → is_strtab (slice_get ss i) ≡ true → i < length ss
+strtab_inside ss i h = elim (cases_lt i (length ss)) [
+  | inl l ↦ l
+  | inr g ↦ absurd (let q : false ≡ true = rw (slice_get_past ss i g) at h in cc)
+]
+
+pub linked : (bytes : ℕ) (ss : List Section) (i : ℕ) (d : Section) → section_out bytes ss ≡ None → symtab_index ss ≡ Some i
+    → (get_or ss i d).link < length ss
+linked bytes ss i d h e = strtab_inside ss (get_or ss i d).link (link_is bytes ss i d h e)
+
+pub tables_are : (bytes : ℕ) (ss : List Section) (i : ℕ) (d e : Section) → section_out bytes ss ≡ None → symtab_index ss ≡ Some i
+    → IsTables bytes ss record { symbols = get_or ss i d; strings = get_or ss (get_or ss i d).link e }
+tables_are bytes ss i d e h at =
+    let t : Section = get_or ss i d in
+    let p : (i < length ss) × (is_symtab t ≡ true) × ((k : ℕ) → k < i → is_symtab (get_or ss k d) ≡ false) = position-Some is_symtab ss i d at in
+    let l : t.link < length ss = linked bytes ss i d h at in
+    let s : slice_get ss t.link ≡ Some (get_or ss t.link e) = slice_get-get_or ss t.link e l in
+    let k : is_strtab (Some (get_or ss t.link e)) ≡ true = rw s at (link_is bytes ss i d h at) in
+    record {
+      symbols = find_is is_symtab ss i at ∙ slice_get-get_or ss i d p.0;
+      strings = s;
+      symbols_inside = inside t.kind t.offset t.size bytes (stays bytes ss i d h p.0) (two t.kind p.1).0 (two t.kind p.1).1;
+      strings_inside = inside (get_or ss t.link e).kind (get_or ss t.link e).offset (get_or ss t.link e).size bytes (stays bytes ss t.link e h l)
+          (three _ k).0 (three _ k).1;
+    }
+  where
+    two : (k : ℕ) → nat_eq k 2 ≡ true → (k ≢ 0) × (k ≢ 8)
+    two k h = let e : k ≡ 2 = grind (arith, nat_tests) in (λ z. omega arith, λ z. omega arith)
+
+    three : (k : ℕ) → nat_eq k 3 ≡ true → (k ≢ 0) × (k ≢ 8)
+    three k h = let e : k ≡ 3 = grind (arith, nat_tests) in (λ z. omega arith, λ z. omega arith)

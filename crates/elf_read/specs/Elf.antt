@@ -1,0 +1,29 @@
+-- What a readable file is read as.
+use Rattle.std.specs.Prelude.{◌≡◌, ℕ, ◌⊎◌, List, Some, None, Result, Ok, Err}
+use Rattle.elf_read.specs.declared.elf_file.Elf.{Elf}
+use Rattle.elf_read.specs.declared.refusals.ElfRefusal.{ElfRefusal}
+use Rattle.elf_read.specs.declared.refusals.ElfRefusal.TheVariants.{Memory}
+use Rattle.elf_spec.specs.Records.{e_entry, e_flags, e_phoff, e_shoff, sections_of, segments_of}
+use Rattle.elf_spec.specs.Tables.{symbols_of}
+use Rattle.elf_read.specs.Refusals.{refusal}
+
+-- no check refuses the file
+abbrev pub IsReadable : List ℕ → Type 0
+IsReadable file = refusal file ≡ None
+
+-- the fields of the header, and all headers and symbols in the file's order
+abbrev pub elf_of : List ℕ → Elf
+elf_of file = record {
+  entry = e_entry file;
+  phoff = e_phoff file;
+  shoff = e_shoff file;
+  flags = e_flags file;
+  segments = segments_of file;
+  sections = sections_of file;
+  symbols = symbols_of file;
+}
+
+-- a readable file is read, another is refused for the first check that it fails; memory may lack
+abbrev pub Gives : Result Elf ElfRefusal → List ℕ → Type 0
+Gives (Ok elf) file = IsReadable file × (elf ≡ elf_of file)
+Gives (Err why) file = (refusal file ≡ Some why) ⊎ (why ≡ Memory)

@@ -1,0 +1,7 @@
+pub mod FirstLayout
+pub mod First
+pub mod Checks
+pub mod Refusals
+pub mod Symbols
+pub mod Readable
+pub mod Elf

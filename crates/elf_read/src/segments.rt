@@ -1,0 +1,189 @@
+// The program headers of a file and their checks (gABI, "Program Header", "Program Loading").
+
+ghost use Rattle.std.specs.Prelude.{◌≡◌, ◌+◌, ◌*◌, ◌<◌, ◌≤◌, ◌^◌, length, IfOk, IfSome, []};
+ghost use Rattle.std.specs.List.{list_any, position};
+ghost use Rattle.elf_spec.specs.Records.{entries, segment_at};
+ghost use Rattle.elf_spec.specs.Memory.{is_loaded};
+ghost use Rattle.elf_read.specs.Checks.{is_refused_kind, is_segment_out, is_shared, meets};
+ghost use Rattle.elf_read.specs.Refusals.{Says, memory_size, overlap_after, segment_kind, segment_out, segment_overlap, too_large};
+
+use crate::elf_file::SegmentList;
+use crate::fields::word;
+use crate::refusals::ElfRefusal;
+use elf_spec::Segment;
+use std::alloc::{AllocError, Global};
+
+const PT_LOAD: u32 = 1;
+
+const PT_DYNAMIC: u32 = 2;
+
+const PT_INTERP: u32 = 3;
+
+const PT_PHDR: u32 = 6;
+
+const PT_TLS: u32 = 7;
+
+/// The greatest address at which a segment may end.
+const MOST_ADDRESS: u64 = 0x7ff00000;
+
+/// The most bytes of memory that all segments may take.
+const MOST_MEMORY: u32 = 134217728;
+
+/// The program header at an offset.
+#[tactic(auto, unfolding(elf_spec::specs::Records::segment_at))]
+fn segment(file: &[u8], at: usize) -> Segment
+    requires { at + 32 ≤ length file.now }
+    ensures { result ≡ segment_at file.now at }
+{
+    Segment {
+        kind: word(file, at),
+        offset: word(file, at + 4),
+        vaddr: word(file, at + 8),
+        paddr: word(file, at + 12),
+        file_size: word(file, at + 16),
+        mem_size: word(file, at + 20),
+        flags: word(file, at + 24),
+        align: word(file, at + 28),
+    }
+}
+
+/// The program headers from an offset on.
+pub(crate) fn read_segments(
+    alloc: Global,
+    file: &[u8],
+    at: usize,
+    count: usize,
+) -> Result<SegmentList, AllocError>
+    requires { 0 < count → at + 32 * count ≤ length file.now }
+    ensures count { IfOk result (λ list. length list ≡ count) }
+    ensures read { IfOk result (λ list. list ≡ entries (segment_at file.now) 32 at count) }
+{
+    let mut list = SegmentList::new(alloc);
+    for i in 0..count {
+        list.push(segment(file, at + 32 * i))?;
+    }
+    Ok(list)
+}
+
+fn is_refused_kind(kind: u32) -> bool
+    ensures { result ≡ is_refused_kind kind }
+{
+    matches!(kind, PT_DYNAMIC | PT_INTERP | PT_PHDR | PT_TLS)
+}
+
+/// Checks that no segment asks for a dynamic linker or thread-local storage, or holds the headers.
+#[tactic(auto, unfolding(crate::specs::Refusals::segment_kind))]
+pub(crate) fn check_kinds(segments: &[Segment]) -> Result<(), ElfRefusal>
+    requires { length segments.now < 2 ^ 32 }
+    ensures { Says result (segment_kind segments.now) }
+{
+    for (i, s) in segments.iter().enumerate() {
+        if is_refused_kind(s.kind) {
+            return Err(ElfRefusal::SegmentKind {
+                index: i as u32,
+                kind: s.kind,
+            });
+        }
+    }
+    Ok(())
+}
+
+/// Whether a segment is a PT_LOAD that takes memory.
+fn is_loaded(s: &Segment) -> bool
+    ensures { result ≡ is_loaded s.now }
+{
+    s.kind == PT_LOAD && s.mem_size > 0
+}
+
+fn is_out(s: &Segment, bytes: usize) -> bool
+    ensures { result ≡ is_segment_out bytes s.now }
+{
+    is_loaded(s)
+        && (s.file_size > s.mem_size
+            || s.offset as u64 + s.file_size as u64 > bytes as u64
+            || s.vaddr as u64 + s.mem_size as u64 > MOST_ADDRESS)
+}
+
+fn first_out(segments: &[Segment], bytes: usize) -> Option<usize>
+    ensures first { result ≡ position (is_segment_out bytes) segments.now }
+    ensures inside { IfSome result (λ i. i < length segments.now) }
+{
+    segments.iter().position(|s| is_out(s, bytes))
+}
+
+/// Checks that the loaded segments are inside a file of so many bytes and below the greatest
+/// address.
+#[tactic(auto, unfolding(crate::specs::Refusals::segment_out))]
+pub(crate) fn check_out(segments: &[Segment], bytes: usize) -> Result<(), ElfRefusal>
+    requires { length segments.now < 2 ^ 32 }
+    ensures { Says result (segment_out bytes segments.now) }
+{
+    match first_out(segments, bytes) {
+        Some(i) => Err(ElfRefusal::SegmentOut(i as u32)),
+        None => Ok(()),
+    }
+}
+
+/// Whether two ranges, each given by its start and size, have a number in common.
+fn is_shared(a: u32, m: u32, b: u32, n: u32) -> bool
+    ensures { result ≡ is_shared a m b n }
+{
+    m > 0 && n > 0 && (a as u64) < b as u64 + n as u64 && (b as u64) < a as u64 + m as u64
+}
+
+/// Whether two loaded segments have an address or a file byte in common.
+fn meet(s: &Segment, t: &Segment) -> bool
+    ensures { result ≡ meets s.now t.now }
+{
+    is_loaded(s)
+        && is_loaded(t)
+        && (is_shared(s.vaddr, s.mem_size, t.vaddr, t.mem_size)
+            || is_shared(s.offset, s.file_size, t.offset, t.file_size))
+}
+
+fn meets_one(front: &[Segment], s: &Segment) -> bool
+    ensures { result ≡ list_any (λ t. meets t s.now) front.now }
+{
+    front.iter().any(|t| meet(t, s))
+}
+
+/// The first segment that meets one before it.
+fn first_overlap(segments: &[Segment]) -> Option<usize>
+    ensures first { result ≡ overlap_after [] 0 segments.now }
+    ensures inside { IfSome result (λ i. i < length segments.now) }
+{
+    for i in 0..segments.len() {
+        if meets_one(&segments[..i], &segments[i]) {
+            return Some(i);
+        }
+    }
+    None
+}
+
+/// Checks that no two loaded segments have an address or a file byte in common.
+#[tactic(auto, unfolding(crate::specs::Refusals::segment_overlap))]
+pub(crate) fn check_overlap(segments: &[Segment]) -> Result<(), ElfRefusal>
+    requires { length segments.now < 2 ^ 32 }
+    ensures { Says result (segment_overlap segments.now) }
+{
+    match first_overlap(segments) {
+        Some(i) => Err(ElfRefusal::SegmentOverlap(i as u32)),
+        None => Ok(()),
+    }
+}
+
+/// Checks how much memory the segments take.
+#[tactic(auto, unfolding(crate::specs::Refusals::too_large))]
+pub(crate) fn check_large(segments: &[Segment]) -> Result<(), ElfRefusal>
+    requires { memory_size segments.now < 2 ^ 32 }
+    ensures { Says result (too_large segments.now) }
+{
+    let bytes: u32 = segments
+        .iter()
+        .map(|s| if s.kind == PT_LOAD { s.mem_size } else { 0 })
+        .sum();
+    if bytes > MOST_MEMORY {
+        return Err(ElfRefusal::TooLarge(bytes));
+    }
+    Ok(())
+}

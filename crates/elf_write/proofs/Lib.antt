@@ -1,0 +1,6 @@
+pub mod Assoc
+pub mod Sets
+pub mod Written
+pub mod Headers
+pub mod LayoutLaw
+pub mod LoadingLaw

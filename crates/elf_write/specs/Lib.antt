@@ -1,0 +1,4 @@
+pub mod Inputs
+pub mod Ends
+pub mod Layout
+pub mod Places

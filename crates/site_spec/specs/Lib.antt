@@ -1,0 +1,5 @@
+pub mod Places
+pub mod Sites
+pub mod Plans
+pub mod Stubs
+pub mod Rewritten

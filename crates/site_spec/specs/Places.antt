@@ -1,0 +1,25 @@
+-- Where the new text of a rewritten file stands, and what a jump reaches.
+use Rattle.std.specs.Prelude.{ℕ, ◌+◌, ◌-◌, ◌*◌, ◌%◌, ◌^◌, List, Bool, ◌&&◌, max, nat_le}
+use Rattle.elf_spec.specs.Records.{segments_of}
+use Rattle.elf_spec.specs.Memory.{image_end}
+use Rattle.elf_spec.specs.NewFile.{up4096}
+
+-- sums and differences of words wrap at 2^32
+abbrev pub plus : ℕ → ℕ → ℕ
+plus a b = (a + b) % 2 ^ 32
+
+abbrev pub minus : ℕ → ℕ → ℕ
+minus a b = (a + (2 ^ 32 - b)) % 2 ^ 32
+
+-- the new text stands at the first multiple of 4096 that is past the image and at least 65536
+abbrev pub text_at : List ℕ → ℕ
+text_at file = up4096 (max 65536 (image_end (segments_of file)))
+
+-- the place of stub k in a new text: behind the mark of 16 bytes, 44 bytes each
+abbrev pub stub_at : ℕ → ℕ → ℕ
+stub_at text k = text + 16 + 44 * k
+
+-- a JAL at an address reaches a target: the distance is from -1048576 to 1048574 (RISC-V
+-- unprivileged manual, "Unconditional Jumps")
+abbrev pub reaches : ℕ → ℕ → Bool
+reaches from target = nat_le from (target + 1048576) && nat_le target (from + 1048574)
