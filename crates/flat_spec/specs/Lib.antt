@@ -1,0 +1,5 @@
+pub mod Stores
+pub mod Machine
+pub mod Calls
+pub mod Turns
+pub mod Runs

@@ -1,0 +1,4 @@
+pub mod Memory
+pub mod Widths
+pub mod Calls
+pub mod Start

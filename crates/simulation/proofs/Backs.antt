@@ -1,0 +1,169 @@
+-- Where calls come back to: the stub of the chosen site whose call it is, or the same address.
+use Rattle.std.proofs.Common.{◌≡◌, ◌≢◌, ℕ, zero, suc, ◌+◌, ◌%◌, ◌<◌, ◌≤◌, List, [], ◌∷◌, Bool, true, false, cond, not, refl, ap, sym, ◌∙◌, subst, arith, length, get_or}
+use Rattle.std.specs.Prelude.{Option, Some, None, position, nat_eq, nat_lt, slice_get}
+use Rattle.std.proofs.lemmas.Bool.Decides.{nat_tests}
+use Rattle.std.proofs.lemmas.List.Quantifiers.{position-Some}
+use Rattle.std.proofs.lemmas.List.Sums.{prefix_len_passes}
+use Rattle.std.proofs.lemmas.Option.{slice_get-get_or, slice_get_within, get_or_from_slice_get}
+use Rattle.std.specs.List.{position_or_len}
+use Rattle.plan_core.specs.declared.types.Plan.{Plan}
+use Rattle.plan_core.specs.declared.types.PlanLine.{PlanLine}
+use Rattle.site_spec.specs.declared.Site.{Site}
+use Rattle.site_spec.specs.Places.{text_at}
+use Rattle.site_spec.specs.Sites.{site_at}
+use Rattle.sym_spec.specs.SymMachine.{back_index, is_back, line_at}
+use Rattle.match_spec.specs.Stands.{back_of, back_in}
+use Rattle.match_spec.specs.Matches.{text_room, IsReturn}
+use Rattle.simulation.specs.Ground.{Ground}
+
+-- the site line whose call comes back to an address
+pub record BackLine (file : List ℕ) (lines : List PlanLine) (a k : ℕ) : Type 0 where
+  pub below : k < length lines
+  pub line : PlanLine
+  pub there : slice_get lines k ≡ Some line
+  pub site : Site
+  pub at : site_at file line.addr ≡ Some site
+  pub back : site.back ≡ a
+
+some_line : PlanLine
+some_line = record { bit = 0; addr = 0 }
+
+pub back_line : (file : List ℕ) (lines : List PlanLine) (a k : ℕ) → back_index file lines a ≡ Some k → BackLine file lines a k
+unfolding back_index
+back_line file lines a k e =
+    let found : (k < length lines) × (is_back a (site_at file (get_or lines k some_line).addr) ≡ true)
+    × ((j : ℕ) → j < k → is_back a (site_at file (get_or lines j some_line).addr) ≡ false)
+    = position-Some (λ line. is_back a (site_at file line.addr)) lines k some_line e in
+    of_site (site_at file (get_or lines k some_line).addr) refl found.0 found.1
+  where
+    of_site : (o : Option Site) → site_at file (get_or lines k some_line).addr ≡ o → k < length lines → is_back a (site_at file (get_or lines k some_line).addr) ≡ true
+        → BackLine file lines a k
+    of_site (Some s) q below passes =
+        let test : nat_eq s.back a ≡ true = subst (λ o. is_back a o ≡ true) q passes in
+        record {
+          below = below;
+          line = get_or lines k some_line;
+          there = slice_get-get_or lines k some_line below;
+          site = s;
+          at = q;
+          back = grind (arith, nat_tests);
+        }
+    of_site None q below passes = let no : false ≡ true = subst (λ o. is_back a o ≡ true) q passes in absurd (cc)
+
+-- the returned-to address in the new file is a word and a multiple of 4
+pub back_small : (file : List ℕ) (plan : Plan) (new : List ℕ) (a : ℕ) → Ground file plan new → IsReturn a → IsReturn (back_of file plan a)
+unfolding back_of
+back_small file plan new a g h = by_index (back_index file plan.sites a) refl
+  where
+    by_index : (o : Option ℕ) → back_index file plan.sites a ≡ o → IsReturn (back_in (text_at file) o a)
+    by_index None e = h
+    by_index (Some k) e =
+        let line : BackLine file plan.sites a k = back_line file plan.sites a k e in
+        let below : k < 32 = omega (arith, line.below, g.few) in
+        let low : text_at file + text_room ≤ 0x7FF00000 = g.low_text in
+        let aligned : text_at file % 4 ≡ 0 = g.aligned_text in
+        (omega (arith, below, low), omega (arith, aligned))
+
+-- no line is at an address
+pub line_none : (lines : List PlanLine) (a k : ℕ) (line : PlanLine) → line_at lines a ≡ None → slice_get lines k ≡ Some line → line.addr ≢ a
+line_none [] a k line none e = absurd (cc)
+line_none (l ∷ lines) a k line none e = at (line_none lines a) (nat_eq l.addr a) refl k none e
+  where
+    at : ((k : ℕ) (line : PlanLine) → line_at lines a ≡ None → slice_get lines k ≡ Some line → line.addr ≢ a) → (v : Bool) → nat_eq l.addr a ≡ v → (k : ℕ)
+        → cond v (Some l) (line_at lines a) ≡ None → slice_get (l ∷ lines) k ≡ Some line → line.addr ≢ a
+    at ih true q k none e = absurd (cc)
+    at ih false q zero none e =
+        let other : l.addr ≢ a = grind (arith, nat_tests) in
+        let same : l ≡ line = cc in
+        subst (λ x. x.addr ≢ a) same other
+    at ih false q (suc k) none e = ih k line none e
+
+-- behind an instruction that no line names no chosen call comes back
+pub back_same : (file : List ℕ) (plan : Plan) (new : List ℕ) (a : ℕ) → Ground file plan new → line_at plan.sites a ≡ None → back_of file plan (a + 4) ≡ a + 4
+unfolding back_of
+back_same file plan new a g none = by_index (back_index file plan.sites (a + 4)) refl
+  where
+    by_index : (o : Option ℕ) → back_index file plan.sites (a + 4) ≡ o → back_in (text_at file) o (a + 4) ≡ a + 4
+    by_index None e = refl
+    by_index (Some k) e =
+        let line : BackLine file plan.sites (a + 4) k = back_line file plan.sites (a + 4) k e in
+        let back : line.site.back ≡ line.line.addr + 4 = (g.jal_sites line.line.addr line.site line.at).back in
+        let here : line.line.addr ≡ a = omega (arith, back, line.back) in
+        absurd (line_none plan.sites a k line.line none line.there here)
+
+position-None : (p : PlanLine → Bool) (xs : List PlanLine) → position p xs ≡ None → (k : ℕ) (d : PlanLine) → k < length xs → p (get_or xs k d) ≡ false
+position-None p xs none k d below = at (nat_lt (position_or_len p xs) (length xs)) refl none
+  where
+    fails : (b : Bool) → not b ≡ true → b ≡ false
+    fails true e = absurd (cc)
+    fails false e = refl
+
+    at : (t : Bool) → nat_lt (position_or_len p xs) (length xs) ≡ t → cond t (Some (position_or_len p xs)) None ≡ None → p (get_or xs k d) ≡ false
+    at true e none = absurd (cc)
+    at false e none =
+        let long : length xs ≤ position_or_len p xs = grind (arith, nat_tests) in
+        fails (p (get_or xs k d)) (prefix_len_passes (λ x. not (p x)) xs k d (omega (arith, long, below)))
+
+-- no line's call comes back to an address that has no index
+pub index_none : (file : List ℕ) (lines : List PlanLine) (a k : ℕ) (line : PlanLine) → back_index file lines a ≡ None → slice_get lines k ≡ Some line
+    → is_back a (site_at file line.addr) ≡ false
+unfolding back_index
+index_none file lines a k line none e =
+    let below : k < length lines = slice_get_within lines k line e in
+    let value : get_or lines k some_line ≡ line = get_or_from_slice_get lines k line some_line e in
+    subst (λ l. is_back a (site_at file l.addr) ≡ false) value (position-None (λ l. is_back a (site_at file l.addr)) lines none k some_line below)
+
+-- a site line at an address, with its number
+pub record LineAt (lines : List PlanLine) (a : ℕ) (line : PlanLine) : Type 0 where
+  pub number : ℕ
+  pub there : slice_get lines number ≡ Some line
+  pub addr : line.addr ≡ a
+
+pub line_some : (lines : List PlanLine) (a : ℕ) (line : PlanLine) → line_at lines a ≡ Some line → LineAt lines a line
+line_some [] a line e = absurd (cc)
+line_some (l ∷ lines) a line e = at (line_some lines a line) (nat_eq l.addr a) refl e
+  where
+    at : (line_at lines a ≡ Some line → LineAt lines a line) → (v : Bool) → nat_eq l.addr a ≡ v → cond v (Some l) (line_at lines a) ≡ Some line → LineAt (l ∷ lines) a line
+    at ih true q e =
+        let same : l ≡ line = cc in
+        let here : l.addr ≡ a = grind (arith, nat_tests) in
+        record { number = 0; there = ap (λ x. Some x) same; addr = subst (λ x. x.addr ≡ a) same here }
+    at ih false q e = let rest : LineAt lines a line = ih e in record { number = suc rest.number; there = rest.there; addr = rest.addr }
+
+-- the index of the address behind a chosen site is the site line's own number
+pub index_is : (file : List ℕ) (plan : Plan) (new : List ℕ) (a : ℕ) (line : PlanLine) (s : Site) (h : LineAt plan.sites a line) → Ground file plan new
+    → site_at file a ≡ Some s → back_index file plan.sites (a + 4) ≡ Some h.number
+index_is file plan new a line s h g site = by_index (back_index file plan.sites (a + 4)) refl
+  where
+    back : s.back ≡ a + 4
+    back = (g.jal_sites a s site).back
+
+    here : site_at file line.addr ≡ Some s
+    here = ap (site_at file) h.addr ∙ site
+
+    by_index : (o : Option ℕ) → back_index file plan.sites (a + 4) ≡ o → back_index file plan.sites (a + 4) ≡ Some h.number
+    by_index None e =
+        let test : is_back (a + 4) (site_at file line.addr) ≡ false = index_none file plan.sites (a + 4) h.number line e h.there in
+        let no : nat_eq s.back (a + 4) ≡ false = subst (λ o. is_back (a + 4) o ≡ false) here test in
+        absurd (let apart : s.back ≢ a + 4 = grind (arith, nat_tests) in apart back)
+    by_index (Some k) e =
+        let found : BackLine file plan.sites (a + 4) k = back_line file plan.sites (a + 4) k e in
+        let found_back : found.site.back ≡ found.line.addr + 4 = (g.jal_sites found.line.addr found.site found.at).back in
+        let same_addr : found.line.addr ≡ line.addr = omega (arith, found_back, found.back, h.addr) in
+        let below : h.number < length plan.sites = slice_get_within plan.sites h.number line h.there in
+        let first_value : get_or plan.sites k some_line ≡ found.line = get_or_from_slice_get plan.sites k found.line some_line found.there in
+        let second_value : get_or plan.sites h.number some_line ≡ line = get_or_from_slice_get plan.sites h.number line some_line h.there in
+        e ∙ ap (λ x. Some x) (same_number k h.number found.below below
+        (λ lt. g.fits.once k h.number some_line lt below) (λ lt. g.fits.once h.number k some_line lt found.below)
+        (ap (λ (l : PlanLine). l.addr) first_value ∙ (same_addr ∙ sym (ap (λ (l : PlanLine). l.addr) second_value))))
+      where
+        same_number : (i j : ℕ) → i < length plan.sites → j < length plan.sites
+            → (i < j → (get_or plan.sites i some_line).addr ≢ (get_or plan.sites j some_line).addr)
+            → (j < i → (get_or plan.sites j some_line).addr ≢ (get_or plan.sites i some_line).addr)
+            → (get_or plan.sites i some_line).addr ≡ (get_or plan.sites j some_line).addr → i ≡ j
+        same_number i j bi bj up down same = by_order (nat_lt i j) refl (nat_lt j i) refl
+          where
+            by_order : (p : Bool) → nat_lt i j ≡ p → (q : Bool) → nat_lt j i ≡ q → i ≡ j
+            by_order true e q f = let lt : i < j = grind (arith, nat_tests) in absurd (up lt same)
+            by_order false e true f = let lt : j < i = grind (arith, nat_tests) in absurd (down lt (sym same))
+            by_order false e false f = grind (arith, nat_tests)

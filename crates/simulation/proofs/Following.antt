@@ -1,0 +1,128 @@
+-- A turn of the symbol machine is followed by one to seven turns of the flat machine.
+use Rattle.std.proofs.Common.{◌≡◌, ℕ, ◌+◌, ◌≤◌, List, ◌++◌, Bool, true, false, cond, refl, ap, sym, ◌∙◌, arith}
+use Rattle.std.specs.Prelude.{Option, Some, None}
+use Rattle.rv_isa.specs.declared.Instr.{Instr}
+use Rattle.rv_isa.specs.declared.Instr.TheVariants.{Lui, Auipc, Jal, Jalr, Branch, Load, Store, OpImm, Reg, Fence, Ecall, Ebreak}
+use Rattle.elf_spec.specs.Code.{code_word}
+use Rattle.plan_core.specs.declared.types.Plan.{Plan}
+use Rattle.site_spec.specs.declared.Site.{Site}
+use Rattle.site_spec.specs.Places.{text_at}
+use Rattle.site_spec.specs.Sites.{site_at}
+use Rattle.machine_spec.specs.Memory.{Range, memory_of}
+use Rattle.flat_spec.specs.Stores.{fetched}
+use Rattle.flat_spec.specs.Machine.{Machine}
+use Rattle.flat_spec.specs.Turns as flat
+use Rattle.flat_spec.specs.Runs.{step, steps}
+use Rattle.flat_spec.proofs.Pieces.{fetched_same}
+use Rattle.sym_spec.specs.Cells.{Cells}
+use Rattle.sym_spec.specs.SymMachine.{SymMachine}
+use Rattle.sym_spec.specs.SymCalls.{SymTurn}
+use Rattle.sym_spec.specs.SymTurns.{Nothing, Pair, Code, here, here_with, is_second, executes, acts}
+use Rattle.match_spec.specs.Matches.{text_room}
+use Rattle.match_spec.specs.Keeps.{IsNoFault}
+use Rattle.simulation.specs.Ground.{Ground}
+use Rattle.simulation.proofs.InMemory.{InMemory}
+use Rattle.simulation.proofs.Stepping.{InStep}
+use Rattle.simulation.proofs.Calling.{TurnsAlike, quiet_alike}
+use Rattle.simulation.proofs.Acting.{IsPlainInstr}
+use Rattle.simulation.proofs.Way.{running, one_step}
+
+-- so many flat turns lead to a machine in step, with the same input left and the same bytes written
+pub record Follows (file : List ℕ) (plan : Plan) (new : List ℕ) (t : SymTurn) (m : Machine) (input output : List ℕ) : Type 0 where
+  pub turns : ℕ
+  pub some : 1 ≤ turns
+  pub few : turns ≤ 7
+  pub machine : Machine
+  pub is : steps turns (running m input output) ≡ running machine t.left (output ++ t.written)
+  pub next : InStep file plan new t.next machine
+
+-- one turn that is alike
+pub follows_one : (file : List ℕ) (plan : Plan) (new : List ℕ) (t : SymTurn) (m : Machine) (input output : List ℕ)
+    → TurnsAlike file plan new t (flat.turn input m) → Follows file plan new t m input output
+unfolding step
+follows_one file plan new t m input output h = record {
+  turns = 1;
+  some = omega arith;
+  few = omega arith;
+  machine = (flat.turn input m).next;
+  is = one_step (running m input output)
+      ∙ (ap (λ l. running (flat.turn input m).next l (output ++ (flat.turn input m).written)) h.left ∙ ap (λ w. running (flat.turn input m).next t.left (output ++ w)) h.written);
+  next = h.next;
+}
+
+-- what is fetched from the code and from the new text is the new file's
+pub fetch_code : (file : List ℕ) (plan : Plan) (new : List ℕ) (cells : Cells) (memory : List Range) (a w : ℕ) → Ground file plan new → InMemory file plan new cells memory
+    → code_word file a ≡ Some w → fetched memory a ≡ fetched (memory_of new) a
+fetch_code file plan new cells memory a w g h code =
+    fetched_same memory (memory_of new) a h.shape (λ k low high. h.code k (g.code_bytes a w k code low high))
+
+pub fetch_text : (file : List ℕ) (plan : Plan) (new : List ℕ) (cells : Cells) (memory : List Range) (a : ℕ) → Ground file plan new → InMemory file plan new cells memory
+    → text_at file ≤ a → a + 4 ≤ text_at file + text_room → fetched memory a ≡ fetched (memory_of new) a
+fetch_text file plan new cells memory a g h low high =
+    fetched_same memory (memory_of new) a h.shape (λ k l t. h.text k (omega (arith, low, l)) (omega (arith, high, t)))
+
+-- what stands at an address
+pub here_code : (file : List ℕ) (a w : ℕ) → here file a ≡ Code w → code_word file a ≡ Some w
+unfolding here
+here_code file a w e = at (is_second file a) e
+  where
+    inner : (o : Option ℕ) (p : Option Site) → here_with o p ≡ Code w → o ≡ Some w
+    inner (Some v) (Some s) e = pair s.pair e
+      where
+        pair : (b : Bool) → cond b (Pair s) (Code v) ≡ Code w → Some v ≡ Some w
+        pair true e = absurd (cc)
+        pair false e = cc
+    inner (Some v) None e = cc
+    inner None p e = absurd (cc)
+
+    at : (b : Bool) → cond b Nothing (here_with (code_word file a) (site_at file a)) ≡ Code w → code_word file a ≡ Some w
+    at true e = absurd (cc)
+    at false e = inner (code_word file a) (site_at file a) e
+
+pub no_pair : (file : List ℕ) (plan : Plan) (new : List ℕ) (a : ℕ) (s : Site) → Ground file plan new → here file a ≡ Pair s → ⊥
+unfolding here
+no_pair file plan new a s g e = at (is_second file a) e
+  where
+    inner : (o : Option ℕ) (p : Option Site) → site_at file a ≡ p → here_with o p ≡ Pair s → ⊥
+    inner (Some v) (Some t) q e = pair t.pair refl e
+      where
+        pair : (b : Bool) → t.pair ≡ b → cond b (Pair t) (Code v) ≡ Pair s → ⊥
+        pair true r e = let no : t.pair ≡ false = (g.jal_sites a t q).pair in let clash : true ≡ false = sym r ∙ no in cc
+        pair false r e = cc
+    inner (Some v) None q e = cc
+    inner None p q e = cc
+
+    at : (b : Bool) → cond b Nothing (here_with (code_word file a) (site_at file a)) ≡ Pair s → ⊥
+    at true e = cc
+    at false e = inner (code_word file a) (site_at file a) refl e
+
+-- an instruction that is neither a system call nor a jump to a register does what `acts` says
+pub plain_turn : (file : List ℕ) (plan : Plan) (new input : List ℕ) (s : SymMachine) (m : Machine) (i : Instr) → IsPlainInstr i
+    → InStep file plan new (acts file plan i s) (flat.acts i m) → TurnsAlike file plan new (executes file plan input (Some i) s) (flat.executes input (Some i) m)
+plain_turn file plan new input s m (Lui rd imm) p h = quiet_alike file plan new input (acts file plan (Lui rd imm) s) (flat.acts (Lui rd imm) m) h
+plain_turn file plan new input s m (Auipc rd imm) p h = quiet_alike file plan new input (acts file plan (Auipc rd imm) s) (flat.acts (Auipc rd imm) m) h
+plain_turn file plan new input s m (Jal rd imm) p h = quiet_alike file plan new input (acts file plan (Jal rd imm) s) (flat.acts (Jal rd imm) m) h
+plain_turn file plan new input s m (Jalr rd rs1 imm) p h = absurd p
+plain_turn file plan new input s m (Branch c rs1 rs2 imm) p h = quiet_alike file plan new input (acts file plan (Branch c rs1 rs2 imm) s) (flat.acts (Branch c rs1 rs2 imm) m) h
+plain_turn file plan new input s m (Load width rd rs1 imm) p h = quiet_alike file plan new input (acts file plan (Load width rd rs1 imm) s) (flat.acts (Load width rd rs1 imm) m) h
+plain_turn file plan new input s m (Store width rs1 rs2 imm) p h = quiet_alike file plan new input (acts file plan (Store width rs1 rs2 imm) s) (flat.acts (Store width rs1 rs2 imm) m) h
+plain_turn file plan new input s m (OpImm op rd rs1 imm) p h = quiet_alike file plan new input (acts file plan (OpImm op rd rs1 imm) s) (flat.acts (OpImm op rd rs1 imm) m) h
+plain_turn file plan new input s m (Reg op rd rs1 rs2) p h = quiet_alike file plan new input (acts file plan (Reg op rd rs1 rs2) s) (flat.acts (Reg op rd rs1 rs2) m) h
+plain_turn file plan new input s m (Fence rest) p h = quiet_alike file plan new input (acts file plan (Fence rest) s) (flat.acts (Fence rest) m) h
+plain_turn file plan new input s m Ecall p h = absurd p
+plain_turn file plan new input s m Ebreak p h = quiet_alike file plan new input (acts file plan Ebreak s) (flat.acts Ebreak m) h
+
+pub plain_safe : (file : List ℕ) (plan : Plan) (input : List ℕ) (s : SymMachine) (i : Instr) → IsPlainInstr i
+    → IsNoFault (executes file plan input (Some i) s).next.ending → IsNoFault (acts file plan i s).ending
+plain_safe file plan input s (Lui rd imm) p h = h
+plain_safe file plan input s (Auipc rd imm) p h = h
+plain_safe file plan input s (Jal rd imm) p h = h
+plain_safe file plan input s (Jalr rd rs1 imm) p h = absurd p
+plain_safe file plan input s (Branch c rs1 rs2 imm) p h = h
+plain_safe file plan input s (Load width rd rs1 imm) p h = h
+plain_safe file plan input s (Store width rs1 rs2 imm) p h = h
+plain_safe file plan input s (OpImm op rd rs1 imm) p h = h
+plain_safe file plan input s (Reg op rd rs1 rs2) p h = h
+plain_safe file plan input s (Fence rest) p h = h
+plain_safe file plan input s Ecall p h = absurd p
+plain_safe file plan input s Ebreak p h = h

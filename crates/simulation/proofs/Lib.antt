@@ -1,0 +1,16 @@
+pub mod InMemory
+pub mod Storing
+pub mod Backs
+pub mod Operations
+pub mod Loading
+pub mod Registers
+pub mod Stepping
+pub mod Jumping
+pub mod Calling
+pub mod Acting
+pub mod Way
+pub mod Stub
+pub mod StubCall
+pub mod Following
+pub mod Turning
+pub mod Running

@@ -1,0 +1,200 @@
+-- The whole run: from the start, by induction on the turns of the symbol machine.
+use Rattle.std.proofs.Common.{◌≡◌, ◌≢◌, ℕ, zero, suc, ◌+◌, ◌*◌, ◌/◌, ◌%◌, ◌<◌, ◌≤◌, List, [], ◌∷◌, Bool, true, false, cond, length, map, refl, ap, sym, ◌∙◌, subst, arith}
+use Rattle.std.specs.Prelude.{None, nat_eq, nat_lt, slice_index, slice_index_or}
+use Rattle.std.proofs.lemmas.Bool.Decides.{nat_tests}
+use Rattle.std.proofs.Math.Nat.{mul-le-mul_left}
+use Rattle.std.proofs.lemmas.List.{get_or_past}
+use Rattle.plan_core.specs.declared.types.Plan.{Plan}
+use Rattle.plan_core.specs.Plan.{granules}
+use Rattle.machine_spec.specs.declared.Ending.{Ending}
+use Rattle.machine_spec.specs.declared.Ending.TheVariants.{Running, Exit, Illegal, Fault}
+use Rattle.machine_spec.specs.Memory.{memory_of, byte_of}
+use Rattle.machine_spec.specs.Start.{start_registers}
+use Rattle.flat_spec.specs.Machine as flat_machine
+use Rattle.flat_spec.specs.Machine.{Machine, register}
+use Rattle.flat_spec.specs.Runs as flat
+use Rattle.flat_spec.specs.Runs.{State}
+use Rattle.sym_spec.specs.declared.Value.{Value}
+use Rattle.sym_spec.specs.declared.Value.TheVariants.{Num, Ret, Unset}
+use Rattle.sym_spec.specs.Cells.{Bytes, Symbol, known, byte_in}
+use Rattle.sym_spec.specs.Plain.{start_byte, start_cells}
+use Rattle.sym_spec.specs.SymMachine.{SymMachine, value_of, start}
+use Rattle.sym_spec.specs.SymTurns.{turn_of, turn}
+use Rattle.sym_spec.specs.SymRuns.{SymState, step, steps, sym_run}
+use Rattle.match_spec.specs.Matches.{Matches, IsReturn}
+use Rattle.match_spec.specs.Keeps.{IsNoFault, Keeps}
+use Rattle.simulation.specs.Ground.{Ground}
+use Rattle.simulation.proofs.InMemory.{InMemory}
+use Rattle.simulation.proofs.Operations.{Holds, holds_num}
+use Rattle.simulation.proofs.Registers.{InRegisters}
+use Rattle.simulation.proofs.Stepping.{InStep}
+use Rattle.simulation.proofs.Way.{running, more_steps}
+use Rattle.simulation.proofs.Following.{Follows}
+use Rattle.simulation.proofs.Turning.{turn_follows}
+
+-- the registers at the start
+start_holds : (file : List ℕ) (plan : Plan) (words : List ℕ) (r : ℕ) → r < length words
+    → Holds file plan (cond (nat_eq r 0) (Num 0) (slice_index_or (map (λ w. Num w) words) r Unset)) (cond (nat_eq r 0) 0 (slice_index words r))
+start_holds file plan words r small = at (nat_eq r 0)
+  where
+    reads : (words : List ℕ) (r : ℕ) → r < length words → slice_index_or (map (λ w. Num w) words) r Unset ≡ Num (slice_index words r)
+    reads [] r small = absurd (omega arith)
+    reads (w ∷ words) zero small = refl
+    reads (w ∷ words) (suc r) small = reads words r (omega arith)
+
+    at : (z : Bool) → Holds file plan (cond z (Num 0) (slice_index_or (map (λ w. Num w) words) r Unset)) (cond z 0 (slice_index words r))
+    at true = holds_num file plan 0
+    at false = rw (reads words r small) (holds_num file plan (slice_index words r))
+
+registers_start : (file : List ℕ) (plan : Plan) → InRegisters file plan (map (λ w. Num w) start_registers) start_registers 0
+registers_start file plan = record {
+  holds = λ r small n. start_holds file plan start_registers r small;
+  bits_there = refl;
+  spare = refl;
+  long = refl;
+  sym_long = refl;
+}
+
+-- the memory at the start
+start_known : (file : List ℕ) (a : ℕ) → known (start_cells file) a ≡ start_byte file a
+unfolding start_cells
+start_known file a = by_rest (a % 4) refl
+  where
+    by_rest : (r : ℕ) → a % 4 ≡ r
+        → byte_in (Bytes (start_byte file (4 * (a / 4))) (start_byte file (4 * (a / 4) + 1)) (start_byte file (4 * (a / 4) + 2)) (start_byte file (4 * (a / 4) + 3))) r ≡ start_byte file a
+    by_rest zero e = ap (start_byte file) (omega arith)
+    by_rest (suc zero) e = ap (start_byte file) (omega arith)
+    by_rest (suc (suc zero)) e = ap (start_byte file) (omega arith)
+    by_rest (suc (suc (suc zero))) e = ap (start_byte file) (omega arith)
+    by_rest (suc (suc (suc (suc r)))) e = absurd (omega arith)
+
+no_symbol : (file : List ℕ) (k : ℕ) (v : Value) → start_cells file k ≡ Symbol v → ⊥
+unfolding start_cells
+no_symbol file k v e = cc
+
+memory_start : (file : List ℕ) (plan : Plan) (new : List ℕ) → Ground file plan new → InMemory file plan new (start_cells file) (memory_of new)
+memory_start file plan new g = record {
+  bytes = λ a b plain k. g.plain a plain ∙ (sym (ap (λ t. cond t (byte_of (memory_of file) a) None) plain) ∙ (sym (start_known file a) ∙ k));
+  symbols = λ k v plain e. absurd (no_symbol file k v e);
+  stored_returns = λ k a e. absurd (no_symbol file k (Ret a) e);
+  shape = refl;
+  code = λ a code. refl;
+  text = λ a low high. refl;
+}
+
+start_alike : (file : List ℕ) (plan : Plan) (new : List ℕ) → Ground file plan new → InStep file plan new (start file) (flat_machine.start new)
+unfolding start flat_machine.start
+start_alike file plan new g = record {
+  pc = g.entry;
+  ending = refl;
+  registers = registers_start file plan;
+  memory = memory_start file plan new g;
+}
+
+-- a fault stays a fault
+fault_stays : (file : List ℕ) (plan : Plan) (input : List ℕ) (s : SymMachine) → IsNoFault (turn file plan input s).next.ending → IsNoFault s.ending
+unfolding turn
+fault_stays file plan input s safe = by_ending s.ending refl safe
+  where
+    by_ending : (e : Ending) → s.ending ≡ e → IsNoFault (turn_of file plan e input s).next.ending → IsNoFault s.ending
+    by_ending Running e safe = rw e tt
+    by_ending (Exit status) e safe = rw e tt
+    by_ending (Illegal at) e safe = rw e tt
+    by_ending (Fault kind at) e safe = safe
+
+-- so many turns, and a state in step
+pub record InRun (file : List ℕ) (plan : Plan) (new input : List ℕ) (n : ℕ) (s : SymState) : Type 0 where
+  pub turns : ℕ
+  pub least : n ≤ turns
+  pub most : turns ≤ 7 * n
+  pub machine : Machine
+  pub is : flat.flat_run new input turns ≡ running machine s.input s.output
+  pub next : InStep file plan new s.machine machine
+
+one_more : (file : List ℕ) (plan : Plan) (new input : List ℕ) (n : ℕ) (s : SymState) → Ground file plan new → IsNoFault (step file plan s).machine.ending
+    → InRun file plan new input n s → InRun file plan new input (suc n) (step file plan s)
+unfolding step flat.flat_run
+one_more file plan new input n s g safe h =
+    let f : Follows file plan new (turn file plan s.input s.machine) h.machine s.input s.output =
+    turn_follows file plan new s.machine h.machine s.input s.output g h.next safe in
+    let from : State = running (flat_machine.start new) input [] in
+    record {
+      turns = f.turns + h.turns;
+      least = omega (arith, f.some, h.least);
+      most = omega (arith, f.few, h.most);
+      machine = f.machine;
+      is = more_steps f.turns h.turns from ∙ (ap (flat.steps f.turns) h.is ∙ f.is);
+      next = f.next;
+    }
+
+before : (file : List ℕ) (plan : Plan) (s : SymState) → IsNoFault (step file plan s).machine.ending → IsNoFault s.machine.ending
+unfolding step
+before file plan s safe = fault_stays file plan s.input s.machine safe
+
+pub in_run : (file : List ℕ) (plan : Plan) (new input : List ℕ) (n : ℕ) → Ground file plan new → IsNoFault (sym_run file plan input n).machine.ending
+    → InRun file plan new input n (sym_run file plan input n)
+unfolding sym_run steps flat.flat_run flat.steps
+in_run file plan new input zero g safe = record {
+  turns = 0;
+  least = omega arith;
+  most = omega arith;
+  machine = flat_machine.start new;
+  is = refl;
+  next = start_alike file plan new g;
+}
+in_run file plan new input (suc n) g safe =
+    one_more file plan new input n (sym_run file plan input n) g safe
+    (in_run file plan new input n g (before file plan (sym_run file plan input n) safe))
+
+-- every return address in a register is one
+return_is : (file : List ℕ) (plan : Plan) (s : SymMachine) (words : List ℕ) → InRegisters file plan s.registers words s.bits
+    → (r a : ℕ) → value_of s r ≡ Ret a → IsReturn a
+return_is file plan s words h r a e = by_number (nat_lt r 32) refl (nat_eq r 4) refl
+  where
+    by_number : (t : Bool) → nat_lt r 32 ≡ t → (q : Bool) → nat_eq r 4 ≡ q → IsReturn a
+    by_number true t true q =
+        let same : r ≡ 4 = grind (arith, nat_tests) in
+        let clash : Num 0 ≡ Ret a = sym h.spare ∙ (ap (value_of s) (sym same) ∙ e) in
+        absurd (cc)
+    by_number true t false q =
+        let small : r < 32 = grind (arith, nat_tests) in
+        let other : r ≢ 4 = grind (arith, nat_tests) in
+        (h.holds r small other).returns a e
+    by_number false t q f =
+        let large : length s.registers ≤ r = grind (arith, nat_tests, h.sym_long) in
+        let nonzero : nat_eq r 0 ≡ false = grind (arith, nat_tests) in
+        let past : value_of s r ≡ Unset = rw nonzero (get_or_past s.registers r Unset large) in
+        let clash : Unset ≡ Ret a = sym past ∙ e in
+        absurd (cc)
+
+within : (n g turns : ℕ) → turns ≤ 7 * n → turns ≤ n * (16384 + 256 * g)
+within n g turns h =
+    let more : n * 7 ≤ n * (16384 + 256 * g) = mul-le-mul_left n (omega arith) in
+    omega (arith, h, more)
+
+-- the new file keeps the behaviour of its source
+pub keeps : (file : List ℕ) (plan : Plan) (new : List ℕ) → Ground file plan new → Keeps file plan new
+keeps file plan new g input bytes n safe =
+    let h : InRun file plan new input n (sym_run file plan input n) = in_run file plan new input n g safe in
+    record {
+      turns = h.turns;
+      least = h.least;
+      most = let bound : h.turns ≤ n * (16384 + 256 * granules plan.area) = within n (granules plan.area) h.turns h.most in bound;
+      state = subst (λ x. Matches file plan new (sym_run file plan input n) x) (sym h.is) (record {
+        pc = h.next.pc;
+        input = refl;
+        output = refl;
+        ending = h.next.ending;
+        registers = λ r small other. (h.next.registers.holds r small other).stands;
+        bits = h.next.registers.bits_there;
+        bytes = h.next.memory.bytes;
+        symbols = h.next.memory.symbols;
+        long = h.next.registers.long;
+        sym_long = h.next.registers.sym_long;
+        returns = return_is file plan (sym_run file plan input n).machine h.machine.registers h.next.registers;
+        stored_returns = h.next.memory.stored_returns;
+        shape = h.next.memory.shape;
+        code = h.next.memory.code;
+        text = h.next.memory.text;
+      });
+    }

@@ -1,0 +1,366 @@
+-- A turn of the symbol machine at each kind of place: at a chosen site, at a jump back, elsewhere.
+use Rattle.std.proofs.Common.{◌≡◌, ◌≢◌, ℕ, ◌+◌, ◌-◌, ◌*◌, ◌/◌, ◌%◌, ◌^◌, ◌<◌, ◌≤◌, List, Bool, true, false, cond, length, refl, ap, sym, ◌∙◌, subst, arith, get_or, append-nil}
+use Rattle.std.specs.Prelude.{Option, Some, None, is_some, IsSome, nat_eq, ◌&&◌, ◌||◌, slice_set, slice_get, option_and_then, bit_or}
+use Rattle.std.proofs.lemmas.Bool.Decides.{nat_tests}
+use Rattle.std.proofs.lemmas.Option.{slice_get_within, get_or_from_slice_get}
+use Rattle.rv_isa.specs.declared.Op.TheVariants.{Add, Sll, Or, Xor, And}
+use Rattle.rv_isa.specs.declared.Instr.{Instr}
+use Rattle.rv_isa.specs.declared.Instr.TheVariants.{Lui, Auipc, Jal, Jalr, Branch, Load, Store, OpImm, Reg, Fence, Ecall, Ebreak}
+use Rattle.rv_isa.specs.Encoded.{NamesRegisters, encoded}
+use Rattle.rv_isa.specs.Split.{split_of}
+use Rattle.rv_isa.specs.Table.{decoded}
+use Rattle.rv_isa.proofs.RoundTrip.{formed_decoded, registers_formed}
+use Rattle.elf_spec.specs.Code.{code_word}
+use Rattle.plan_core.specs.declared.types.Plan.{Plan}
+use Rattle.plan_core.specs.declared.types.PlanLine.{PlanLine}
+use Rattle.site_spec.specs.declared.Site.{Site}
+use Rattle.site_spec.specs.Places.{plus, minus, text_at, stub_at, reaches}
+use Rattle.site_spec.specs.Plans.{IsInReach}
+use Rattle.site_spec.specs.Sites.{site_at}
+use Rattle.site_spec.specs.Stubs.{stub_words}
+use Rattle.machine_spec.specs.declared.Ending.{Ending}
+use Rattle.machine_spec.specs.declared.Ending.TheVariants.{Running, Exit, Illegal, Fault}
+use Rattle.machine_spec.specs.declared.FaultKind.TheVariants.{F3}
+use Rattle.machine_spec.specs.Memory.{Range, memory_of}
+use Rattle.machine_spec.specs.Start.{behind}
+use Rattle.flat_spec.specs.Stores.{fetched}
+use Rattle.flat_spec.specs.Machine.{Machine, register}
+use Rattle.flat_spec.specs.Machine as flat_machine
+use Rattle.flat_spec.specs.Calls.{Turn}
+use Rattle.flat_spec.specs.Calls as flat_calls
+use Rattle.flat_spec.specs.Turns as flat
+use Rattle.flat_spec.specs.Runs.{steps}
+use Rattle.sym_spec.specs.declared.Value.{Value}
+use Rattle.sym_spec.specs.declared.Value.TheVariants.{Num, Ret, Unset}
+use Rattle.sym_spec.specs.Cells.{Cells}
+use Rattle.sym_spec.specs.SymMachine.{SymMachine, value_of, jumps, goes_back, ends, faults, links, line_at, clear_bit, back_index}
+use Rattle.sym_spec.specs.SymCalls.{quiet, calls}
+use Rattle.sym_spec.specs.SymTurns.{Here, Nothing, Pair, Code, here, runs_here, executes, acts, jumps_to, turn_of, turn}
+use Rattle.match_spec.specs.Stands.{back_of}
+use Rattle.match_spec.specs.Matches.{IsReturn, text_room}
+use Rattle.match_spec.specs.Keeps.{IsNoFault}
+use Rattle.simulation.specs.Ground.{Ground, IsJalSite}
+use Rattle.simulation.proofs.InMemory.{InMemory}
+use Rattle.simulation.proofs.Backs.{BackLine, back_line, LineAt, line_some, index_is}
+use Rattle.simulation.proofs.Operations.{Holds, holds_unset, holds_ret}
+use Rattle.simulation.proofs.Registers.{changed_registers}
+use Rattle.simulation.proofs.Stepping.{InStep}
+use Rattle.simulation.proofs.Jumping.{behind_code, jumps_alike, flat_back, back_alike, target_aligned}
+use Rattle.simulation.proofs.Calling.{TurnsAlike, quiet_alike, ends_alike, calls_alike}
+use Rattle.simulation.proofs.Acting.{IsPlainInstr, acts_alike, neither, unequal}
+use Rattle.simulation.proofs.Way.{running, turn_is, step_quiet, one_step, more_steps, change_zero, OnWay}
+use Rattle.simulation.proofs.Stub.{EndsAt, returns_way}
+use Rattle.simulation.proofs.StubCall.{CallsTo, call_way}
+use Rattle.simulation.proofs.Following.{Follows, follows_one, fetch_code, fetch_text, here_code, no_pair, plain_turn, plain_safe}
+
+stub_room : (file : List ℕ) (plan : Plan) (new : List ℕ) (k : ℕ) → Ground file plan new → k < length plan.sites
+    → (text_at file ≤ stub_at (text_at file) k) × (stub_at (text_at file) k + 44 ≤ text_at file + text_room) × (stub_at (text_at file) k + 44 < 2 ^ 31) × (stub_at (text_at file) k % 4 ≡ 0)
+stub_room file plan new k g below =
+    let low : text_at file + text_room ≤ 0x7FF00000 = g.low_text in
+    let few : length plan.sites ≤ 32 = g.few in
+    let aligned : text_at file % 4 ≡ 0 = g.aligned_text in
+    (omega arith, omega (arith, few, below), omega (arith, low, few, below), omega (arith, aligned))
+
+-- a word of a stub is fetched
+stub_word : (file : List ℕ) (plan : Plan) (new : List ℕ) (cells : Cells) (memory : List Range) (k i w : ℕ) (line : PlanLine) (s : Site) → Ground file plan new
+    → InMemory file plan new cells memory → slice_get plan.sites k ≡ Some line → site_at file line.addr ≡ Some s → i < 11
+    → slice_get (stub_words (stub_at (text_at file) k) line.bit s.target s.back) i ≡ Some w → fetched memory (stub_at (text_at file) k + 4 * i) ≡ Some w
+stub_word file plan new cells memory k i w line s g h there site small e =
+    let room : (text_at file ≤ stub_at (text_at file) k) × (stub_at (text_at file) k + 44 ≤ text_at file + text_room) × (stub_at (text_at file) k + 44 < 2 ^ 31) × (stub_at (text_at file) k % 4 ≡ 0)
+    = stub_room file plan new k g (slice_get_within plan.sites k line there) in
+    fetch_text file plan new cells memory (stub_at (text_at file) k + 4 * i) g h (omega (arith, room.0)) (omega (arith, room.1, small)) ∙ g.stub k i w line s there site e
+
+-- the line of a plan has a bit below 32
+line_bit : (file : List ℕ) (plan : Plan) (new : List ℕ) (k : ℕ) (line : PlanLine) → Ground file plan new → slice_get plan.sites k ≡ Some line → line.bit < 32
+line_bit file plan new k line g there =
+    let value : get_or plan.sites k line ≡ line = get_or_from_slice_get plan.sites k line line there in
+    subst (λ l. l.bit < 32) value (g.fits.bits k line (slice_get_within plan.sites k line there))
+
+-- a jump back to the return address of a chosen site
+chosen_back : (file : List ℕ) (plan : Plan) (new : List ℕ) (s : SymMachine) (m : Machine) (back k : ℕ) (input output : List ℕ) → Ground file plan new
+    → InStep file plan new s m → s.ending ≡ Running → IsReturn back → back_index file plan.sites back ≡ Some k
+    → EndsAt m.memory m.registers (clear_bit (option_and_then (slice_get plan.sites) (back_index file plan.sites back)) s.bits) back input output 6
+    (running (record m { registers = slice_set m.registers 0 (behind m.pc); pc = back_of file plan back }) input output)
+unfolding back_of
+chosen_back file plan new s m back k input output g h run is e =
+    let line : BackLine file plan.sites back k = back_line file plan.sites back k e in
+    let at : ℕ = stub_at (text_at file) k in
+    let room : (text_at file ≤ at) × (at + 44 ≤ text_at file + text_room) × (at + 44 < 2 ^ 31) × (at % 4 ≡ 0) = stub_room file plan new k g line.below in
+    let word : (i w : ℕ) → i < 11 → slice_get (stub_words at line.line.bit line.site.target line.site.back) i ≡ Some w → fetched m.memory (at + 4 * i) ≡ Some w =
+    λ i w small q. stub_word file plan new s.cells m.memory k i w line.line line.site g h.memory line.there line.at small q in
+    let bits_there : register m 4 ≡ s.bits = h.registers.bits_there in
+    let from : Machine = record m { registers = slice_set m.registers 0 (behind m.pc); pc = at + 20 } in
+    let way : OnWay m.memory m.registers (register m 1) s.bits (at + 20) from = record {
+      memory_is = refl;
+      run = h.ending ∙ run;
+      at = refl;
+      changed = change_zero m.registers m.registers (register m 1) s.bits (behind m.pc)
+          (record { long = h.registers.long; first = refl; bits = bits_there; others = λ j z n x. refl });
+    } in
+    let to : line.site.back ≡ back = line.back in
+    rw (e, line.there)
+    (returns_way m.memory m.registers (register m 1) s.bits at line.line.bit back input output from way (omega (arith, room.2))
+    (line_bit file plan new k line.line g line.there) is.0 is.1
+    (word 5 (encoded (OpImm Add 1 0 1)) (omega arith) refl)
+    (word 6 (encoded (OpImm Sll 1 1 line.line.bit)) (omega arith) refl)
+    (word 7 (encoded (OpImm Xor 1 1 (2 ^ 32 - 1))) (omega arith) refl)
+    (word 8 (encoded (Reg And 4 4 1)) (omega arith) refl)
+    (word 9 (encoded (Auipc 1 (split_of (minus back (plus at 36))).0)) (omega arith) (ap (λ b. Some (encoded (Auipc 1 (split_of (minus b (plus at 36))).0))) to))
+    (word 10 (encoded (Jalr 0 1 (split_of (minus back (plus at 36))).1)) (omega arith) (ap (λ b. Some (encoded (Jalr 0 1 (split_of (minus b (plus at 36))).1))) to)))
+
+-- a jump back to a return address
+back_follows : (file : List ℕ) (plan : Plan) (new : List ℕ) (s : SymMachine) (m : Machine) (back : ℕ) (input output : List ℕ) → Ground file plan new
+    → InStep file plan new s m → s.ending ≡ Running → IsReturn back
+    → flat.turn input m ≡ flat_calls.quiet input (record m { registers = slice_set m.registers 0 (behind m.pc); pc = back_of file plan back })
+    → Follows file plan new (quiet input (goes_back file plan back s)) m input output
+back_follows file plan new s m back input output g h run is turn = by_index (back_index file plan.sites back) refl
+  where
+    by_index : (o : Option ℕ) → back_index file plan.sites back ≡ o → Follows file plan new (quiet input (goes_back file plan back s)) m input output
+    by_index None e = follows_one file plan new (quiet input (goes_back file plan back s)) m input output
+        (rw turn (quiet_alike file plan new input (goes_back file plan back s) (record m { registers = slice_set m.registers 0 (behind m.pc); pc = back_of file plan back })
+        (back_alike file plan new s m back g h e)))
+    by_index (Some k) e =
+        let first : Machine = record m { registers = slice_set m.registers 0 (behind m.pc); pc = back_of file plan back } in
+        let one : steps 1 (running m input output) ≡ running first input output = one_step (running m input output) ∙ step_quiet input output m first turn in
+        let bits : ℕ = clear_bit (option_and_then (slice_get plan.sites) (back_index file plan.sites back)) s.bits in
+        let ends : EndsAt m.memory m.registers bits back input output 6 (running first input output) = chosen_back file plan new s m back k input output g h run is e in
+        record {
+          turns = 7;
+          some = omega arith;
+          few = omega arith;
+          machine = ends.machine;
+          is = more_steps 6 1 (running m input output) ∙ (ap (steps 6) one ∙ (ends.is ∙ ap (λ o. running ends.machine input o) (sym (append-nil output))));
+          next = record {
+            pc = ends.way.at;
+            ending = ends.way.run ∙ sym run;
+            registers = changed_registers file plan s.registers m.registers ends.machine.registers s.bits ends.one bits Unset h.registers ends.way.changed
+                (holds_unset file plan ends.one);
+            memory = subst (λ x. InMemory file plan new s.cells x) (sym ends.way.memory_is) h.memory;
+          };
+        }
+
+-- a jump to a register
+register_jump : (file : List ℕ) (plan : Plan) (new : List ℕ) (s : SymMachine) (m : Machine) (w rd rs1 imm : ℕ) (input output : List ℕ) → Ground file plan new
+    → InStep file plan new s m → s.ending ≡ Running → code_word file s.pc ≡ Some w → line_at plan.sites s.pc ≡ None → rd < 32 → rd ≢ 4 → rs1 < 32 → rs1 ≢ 4
+    → flat.turn input m ≡ flat_calls.quiet input (flat_machine.jumps rd (plus (register m rs1) imm / 2 * 2) m)
+    → IsNoFault (jumps_to file plan rd imm (value_of s rs1) s).ending
+    → Follows file plan new (quiet input (jumps_to file plan rd imm (value_of s rs1) s)) m input output
+register_jump file plan new s m w rd rs1 imm input output g h run code none small other low apart turn safe =
+    by_value (value_of s rs1) (h.registers.holds rs1 low apart) safe
+  where
+    by_value : (v : Value) → Holds file plan v (register m rs1) → IsNoFault (jumps_to file plan rd imm v s).ending
+        → Follows file plan new (quiet input (jumps_to file plan rd imm v s)) m input output
+    by_value (Num v) holds safe =
+        let same : v ≡ register m rs1 = holds.stands in
+        let target : plus (register m rs1) imm / 2 * 2 ≡ plus v imm / 2 * 2 = ap (λ x. plus x imm / 2 * 2) (sym same) in
+        follows_one file plan new (quiet input (jumps file plan rd (plus v imm / 2 * 2) s)) m input output
+        (rw (turn, target) (quiet_alike file plan new input (jumps file plan rd (plus v imm / 2 * 2) s) (flat_machine.jumps rd (plus v imm / 2 * 2) m)
+        (jumps_alike file plan new s m w rd (plus v imm / 2 * 2) g h code none small other safe)))
+    by_value Unset holds safe = absurd safe
+    by_value (Ret back) holds safe = by_test (nat_eq rd 0) refl (nat_eq imm 0) refl safe
+      where
+        by_test : (p : Bool) → nat_eq rd 0 ≡ p → (q : Bool) → nat_eq imm 0 ≡ q → IsNoFault (cond (p && q) (goes_back file plan back s) (faults F3 s)).ending
+            → Follows file plan new (quiet input (cond (p && q) (goes_back file plan back s) (faults F3 s))) m input output
+        by_test true e true f safe =
+            let zero_rd : rd ≡ 0 = grind (arith, nat_tests) in
+            let zero_imm : imm ≡ 0 = grind (arith, nat_tests) in
+            let is : IsReturn back = holds.returns back refl in
+            let stands : back_of file plan back ≡ register m rs1 = holds.stands in
+            back_follows file plan new s m back input output g h run is
+            (turn ∙ ap (flat_calls.quiet input) (ap (λ r. flat_machine.jumps r (plus (register m rs1) imm / 2 * 2) m) zero_rd
+            ∙ (ap (λ i. flat_machine.jumps 0 (plus (register m rs1) i / 2 * 2) m) zero_imm
+            ∙ (ap (λ x. flat_machine.jumps 0 (plus x 0 / 2 * 2) m) (sym stands) ∙ flat_back file plan new back m g is))))
+        by_test true e false f safe = absurd safe
+        by_test false e q f safe = absurd safe
+
+-- an instruction at an address that no site line names
+unchosen : (file : List ℕ) (plan : Plan) (new : List ℕ) (s : SymMachine) (m : Machine) (w : ℕ) (input output : List ℕ) → Ground file plan new
+    → InStep file plan new s m → s.ending ≡ Running → code_word file s.pc ≡ Some w → line_at plan.sites s.pc ≡ None
+    → IsNoFault (executes file plan input (decoded w) s).next.ending → Follows file plan new (executes file plan input (decoded w) s) m input output
+unfolding acts flat.acts
+unchosen file plan new s m w input output g h run code none safe = by_instr (decoded w) refl safe
+  where
+    word : fetched m.memory m.pc ≡ Some w
+    word = ap (fetched m.memory) h.pc ∙ (fetch_code file plan new s.cells m.memory s.pc w g h.memory code ∙ g.code s.pc w code none)
+
+    turn : (o : Option Instr) → decoded w ≡ o → flat.turn input m ≡ flat.executes input o m
+    turn o e = turn_is input m w o (h.ending ∙ run) word e
+
+    registers : (i : Instr) → decoded w ≡ Some i → NamesRegisters i
+    registers i e = registers_formed i (formed_decoded w (g.words s.pc w code) i e)
+
+    plain : (i : Instr) → decoded w ≡ Some i → IsPlainInstr i → IsNoFault (executes file plan input (Some i) s).next.ending
+        → Follows file plan new (executes file plan input (Some i) s) m input output
+    plain i e p safe = follows_one file plan new (executes file plan input (Some i) s) m input output
+        (rw (turn (Some i) e) (plain_turn file plan new input s m i p
+        (acts_alike file plan new s m w i g h run code none (g.names s.pc w i code e) (registers i e) p (plain_safe file plan input s i p safe))))
+
+    by_instr : (o : Option Instr) → decoded w ≡ o → IsNoFault (executes file plan input o s).next.ending
+        → Follows file plan new (executes file plan input o s) m input output
+    by_instr None e safe = follows_one file plan new (quiet input (ends (Illegal s.pc) s)) m input output
+        (rw (turn None e) (subst (λ x. TurnsAlike file plan new (quiet input (ends (Illegal s.pc) s)) (flat_calls.quiet input (flat_machine.ends (Illegal x) m))) (sym h.pc)
+        (quiet_alike file plan new input (ends (Illegal s.pc) s) (flat_machine.ends (Illegal s.pc) m) (ends_alike file plan new s m (Illegal s.pc) h))))
+    by_instr (Some Ecall) e safe = follows_one file plan new (calls file input s) m input output
+        (rw (turn (Some Ecall) e) (calls_alike file plan new input s m g h safe))
+    by_instr (Some (Jalr rd rs1 imm)) e safe =
+        let r : (rd < 32) × (rs1 < 32) = registers (Jalr rd rs1 imm) e in
+        let n : (nat_eq rd 4 || nat_eq rs1 4) ≡ false = g.names s.pc w (Jalr rd rs1 imm) code e in
+        let others : (nat_eq rd 4 ≡ false) × (nat_eq rs1 4 ≡ false) = neither (nat_eq rd 4) (nat_eq rs1 4) n in
+        register_jump file plan new s m w rd rs1 imm input output g h run code none r.0 (unequal rd 4 others.0) r.1 (unequal rs1 4 others.1)
+        (turn (Some (Jalr rd rs1 imm)) e) safe
+    by_instr (Some (Lui rd imm)) e safe = plain (Lui rd imm) e tt safe
+    by_instr (Some (Auipc rd imm)) e safe = plain (Auipc rd imm) e tt safe
+    by_instr (Some (Jal rd imm)) e safe = plain (Jal rd imm) e tt safe
+    by_instr (Some (Branch c rs1 rs2 imm)) e safe = plain (Branch c rs1 rs2 imm) e tt safe
+    by_instr (Some (Load width rd rs1 imm)) e safe = plain (Load width rd rs1 imm) e tt safe
+    by_instr (Some (Store width rs1 rs2 imm)) e safe = plain (Store width rs1 rs2 imm) e tt safe
+    by_instr (Some (OpImm op rd rs1 imm)) e safe = plain (OpImm op rd rs1 imm) e tt safe
+    by_instr (Some (Reg op rd rs1 rs2)) e safe = plain (Reg op rd rs1 rs2) e tt safe
+    by_instr (Some (Fence rest)) e safe = plain (Fence rest) e tt safe
+    by_instr (Some Ebreak) e safe = plain Ebreak e tt safe
+
+word_zero : (memory : List Range) (at v : ℕ) → fetched memory (at + 4 * 0) ≡ Some v → fetched memory at ≡ Some v
+word_zero memory at v h = let e : at + 4 * 0 ≡ at = omega arith in rw e at h
+
+chosen_stub : (file : List ℕ) (plan : Plan) (a k : ℕ) → back_index file plan.sites a ≡ Some k → back_of file plan a ≡ stub_at (text_at file) k + 20
+unfolding back_of
+chosen_stub file plan a k e = rw e refl
+
+-- the call at a chosen site
+chosen_call : (file : List ℕ) (plan : Plan) (new : List ℕ) (s : SymMachine) (m : Machine) (w : ℕ) (line : PlanLine) (site : Site) (input output : List ℕ)
+    → Ground file plan new → InStep file plan new s m → s.ending ≡ Running → code_word file s.pc ≡ Some w → (at : LineAt plan.sites s.pc line)
+    → line_at plan.sites s.pc ≡ Some line → site_at file s.pc ≡ Some site → (jal : IsJalSite file s.pc site)
+    → IsNoFault (jumps file plan 1 (plus s.pc jal.imm) s).ending
+    → Follows file plan new (quiet input (jumps file plan 1 (plus s.pc jal.imm) s)) m input output
+chosen_call file plan new s m w line site input output g h run code at named found jal safe = by_target (is_some (code_word file (plus s.pc jal.imm))) refl safe
+  where
+    number : ℕ
+    number = at.number
+
+    stub : ℕ
+    stub = stub_at (text_at file) number
+
+    by_target : (t : Bool) → is_some (code_word file (plus s.pc jal.imm)) ≡ t
+        → IsNoFault (cond t (record (links plan 1 s) { pc = plus s.pc jal.imm }) (faults F3 s)).ending
+        → Follows file plan new (quiet input (cond t (record (links plan 1 s) { pc = plus s.pc jal.imm }) (faults F3 s))) m input output
+    by_target false e safe = absurd safe
+    by_target true e safe =
+        let below : number < length plan.sites = slice_get_within plan.sites number line at.there in
+        let room : (text_at file ≤ stub) × (stub + 44 ≤ text_at file + text_room) × (stub + 44 < 2 ^ 31) × (stub % 4 ≡ 0) = stub_room file plan new number g below in
+        let here : site_at file line.addr ≡ Some site = ap (site_at file) at.addr ∙ found in
+        let word : (i v : ℕ) → i < 11 → slice_get (stub_words stub line.bit site.target site.back) i ≡ Some v → fetched m.memory (stub + 4 * i) ≡ Some v =
+        λ i v small q. stub_word file plan new s.cells m.memory number i v line site g h.memory at.there here small q in
+        let target : site.target ≡ plus s.pc jal.imm = jal.target in
+        let aligned : plus s.pc jal.imm % 4 ≡ 0 = target_aligned file plan new (plus s.pc jal.imm) g e in
+        let low : s.pc + 4 ≤ text_at file = g.low_code s.pc w code in
+        let text : text_at file + text_room ≤ 0x7FF00000 = g.low_text in
+        let reach : reaches line.addr stub ≡ true = subst (λ o. IsInReach file o number) at.there (g.fits.reach number) site here jal.pair in
+        let reach_here : reaches s.pc stub ≡ true = subst (λ x. reaches x stub ≡ true) at.addr reach in
+        let jump : fetched m.memory s.pc ≡ Some (encoded (Jal 0 (minus stub s.pc))) =
+        fetch_code file plan new s.cells m.memory s.pc w g h.memory code
+        ∙ subst (λ x. fetched (memory_of new) x ≡ Some (encoded (Jal 0 (minus stub x)))) at.addr (g.jump number line at.there) in
+        let way : OnWay m.memory m.registers (register m 1) s.bits s.pc m = record {
+          memory_is = refl;
+          run = h.ending ∙ run;
+          at = h.pc;
+          changed = record { long = h.registers.long; first = refl; bits = h.registers.bits_there; others = λ j z n x. refl };
+        } in
+        let to : CallsTo m.memory m.registers (bit_or s.bits (2 ^ line.bit)) stub (plus s.pc jal.imm) input output (running m input output) =
+        call_way m.memory m.registers (register m 1) s.bits s.pc stub line.bit (plus s.pc jal.imm) input output m way (omega (arith, low, text)) room.2
+        (g.aligned s.pc w code) room.3 (line_bit file plan new number line g at.there) (omega arith) aligned reach_here jump
+        (word_zero m.memory stub (encoded (OpImm Add 1 0 1)) (word 0 (encoded (OpImm Add 1 0 1)) (omega arith) refl))
+        (word 1 (encoded (OpImm Sll 1 1 line.bit)) (omega arith) refl)
+        (word 2 (encoded (Reg Or 4 4 1)) (omega arith) refl)
+        (word 3 (encoded (Auipc 1 (split_of (minus (plus s.pc jal.imm) (plus stub 12))).0)) (omega arith)
+        (ap (λ t. Some (encoded (Auipc 1 (split_of (minus t (plus stub 12))).0))) target))
+        (word 4 (encoded (Jalr 1 1 (split_of (minus (plus s.pc jal.imm) (plus stub 12))).1)) (omega arith)
+        (ap (λ t. Some (encoded (Jalr 1 1 (split_of (minus t (plus stub 12))).1))) target)) in
+        let behind_here : behind s.pc ≡ s.pc + 4 = behind_code file plan new s.pc w g code in
+        let back : back_of file plan (s.pc + 4) ≡ stub + 20 = chosen_stub file plan (s.pc + 4) number (index_is file plan new s.pc line site at g found) in
+        let even : s.pc % 4 ≡ 0 = g.aligned s.pc w code in
+        let is : IsReturn (s.pc + 4) = (omega (arith, low, text), omega (arith, even)) in
+        rw (named, behind_here) (record {
+          turns = 6;
+          some = omega arith;
+          few = omega arith;
+          machine = to.machine;
+          is = to.is ∙ ap (λ o. running to.machine input o) (sym (append-nil output));
+          next = record {
+            pc = to.way.at;
+            ending = to.way.run ∙ sym run;
+            registers = changed_registers file plan s.registers m.registers to.machine.registers s.bits (stub + 20) (bit_or s.bits (2 ^ line.bit)) (Ret (s.pc + 4))
+                h.registers to.way.changed (holds_ret file plan (s.pc + 4) (stub + 20) is back);
+            memory = subst (λ x. InMemory file plan new s.cells x) (sym to.way.memory_is) h.memory;
+          };
+        })
+
+some_same : (a b : ℕ) → Some a ≡ Some b → a ≡ b
+some_same a b e = cc
+
+is_some_of : (o : Option Site) → IsSome o → is_some o ≡ true
+is_some_of (Some s) h = refl
+is_some_of None h = absurd (cc)
+
+-- a site line names a site
+line_site : (file : List ℕ) (plan : Plan) (new : List ℕ) (k : ℕ) (line : PlanLine) → Ground file plan new → slice_get plan.sites k ≡ Some line
+    → is_some (site_at file line.addr) ≡ true
+line_site file plan new k line g there =
+    let value : get_or plan.sites k line ≡ line = get_or_from_slice_get plan.sites k line line there in
+    is_some_of (site_at file line.addr)
+    (subst (λ (l : PlanLine). IsSome (site_at file l.addr)) value (g.fits.sites k line (slice_get_within plan.sites k line there)))
+
+-- the turn of a running machine at what stands at its pc
+running_follows : (file : List ℕ) (plan : Plan) (new : List ℕ) (s : SymMachine) (m : Machine) (input output : List ℕ) → Ground file plan new
+    → InStep file plan new s m → s.ending ≡ Running → IsNoFault (runs_here file plan input (here file s.pc) s).next.ending
+    → Follows file plan new (runs_here file plan input (here file s.pc) s) m input output
+unfolding acts
+running_follows file plan new s m input output g h run safe = by_here (here file s.pc) refl safe
+  where
+    chosen : (w : ℕ) (line : PlanLine) → code_word file s.pc ≡ Some w → line_at plan.sites s.pc ≡ Some line → (o : Option Site) → site_at file s.pc ≡ o → is_some o ≡ true
+        → IsNoFault (executes file plan input (decoded w) s).next.ending → Follows file plan new (executes file plan input (decoded w) s) m input output
+    chosen w line code named None found some safe = absurd (cc)
+    chosen w line code named (Some site) found some safe =
+        let jal : IsJalSite file s.pc site = g.jal_sites s.pc site found in
+        let same : w ≡ jal.word = some_same w jal.word (sym code ∙ jal.there) in
+        let reads : decoded w ≡ Some (Jal 1 jal.imm) = ap decoded same ∙ jal.reads in
+        let at : LineAt plan.sites s.pc line = line_some plan.sites s.pc line named in
+        subst (λ o. Follows file plan new (executes file plan input o s) m input output) (sym reads)
+        (chosen_call file plan new s m w line site input output g h run code at named found jal
+        (subst (λ o. IsNoFault (executes file plan input o s).next.ending) reads safe))
+
+    by_line : (w : ℕ) → code_word file s.pc ≡ Some w → (o : Option PlanLine) → line_at plan.sites s.pc ≡ o
+        → IsNoFault (executes file plan input (decoded w) s).next.ending → Follows file plan new (executes file plan input (decoded w) s) m input output
+    by_line w code None named safe = unchosen file plan new s m w input output g h run code named safe
+    by_line w code (Some line) named safe =
+        let at : LineAt plan.sites s.pc line = line_some plan.sites s.pc line named in
+        chosen w line code named (site_at file s.pc) refl
+        (subst (λ a. is_some (site_at file a) ≡ true) at.addr (line_site file plan new at.number line g at.there)) safe
+
+    by_here : (x : Here) → here file s.pc ≡ x → IsNoFault (runs_here file plan input x s).next.ending → Follows file plan new (runs_here file plan input x s) m input output
+    by_here Nothing e safe = absurd safe
+    by_here (Pair site) e safe = absurd (no_pair file plan new s.pc site g e)
+    by_here (Code w) e safe = by_line w (here_code file s.pc w e) (line_at plan.sites s.pc) refl safe
+
+-- an ended machine stays as it is
+ended_follows : (file : List ℕ) (plan : Plan) (new : List ℕ) (s : SymMachine) (m : Machine) (input output : List ℕ) → InStep file plan new s m
+    → flat.turn input m ≡ flat_calls.quiet input m → Follows file plan new (quiet input s) m input output
+ended_follows file plan new s m input output h e = follows_one file plan new (quiet input s) m input output (rw e (quiet_alike file plan new input s m h))
+
+ended_turn : (input : List ℕ) (m : Machine) (e : Ending) → m.ending ≡ e → (e ≡ Running → ⊥) → flat.turn input m ≡ flat_calls.quiet input m
+unfolding flat.turn
+ended_turn input m Running h n = absurd (n refl)
+ended_turn input m (Exit status) h n = rw h refl
+ended_turn input m (Illegal at) h n = rw h refl
+ended_turn input m (Fault kind at) h n = rw h refl
+
+-- a turn of the symbol machine without an address fault is followed
+pub turn_follows : (file : List ℕ) (plan : Plan) (new : List ℕ) (s : SymMachine) (m : Machine) (input output : List ℕ) → Ground file plan new
+    → InStep file plan new s m → IsNoFault (turn file plan input s).next.ending → Follows file plan new (turn file plan input s) m input output
+unfolding turn
+turn_follows file plan new s m input output g h safe = by_ending s.ending refl safe
+  where
+    by_ending : (e : Ending) → s.ending ≡ e → IsNoFault (turn_of file plan e input s).next.ending → Follows file plan new (turn_of file plan e input s) m input output
+    by_ending Running e safe = running_follows file plan new s m input output g h e safe
+    by_ending (Exit status) e safe = ended_follows file plan new s m input output h (ended_turn input m (Exit status) (h.ending ∙ e) (λ q. cc))
+    by_ending (Illegal at) e safe = ended_follows file plan new s m input output h (ended_turn input m (Illegal at) (h.ending ∙ e) (λ q. cc))
+    by_ending (Fault kind at) e safe = ended_follows file plan new s m input output h (ended_turn input m (Fault kind at) (h.ending ∙ e) (λ q. cc))

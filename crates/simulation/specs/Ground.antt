@@ -1,0 +1,62 @@
+-- What the simulation rests on: facts about a source, a plan that fits it and the memory of its new
+-- file, which speak of no state of a machine.
+use Rattle.std.specs.Prelude.{◌≡◌, ℕ, ◌+◌, ◌*◌, ◌%◌, ◌^◌, ◌<◌, ◌≤◌, ◌⊎◌, List, true, false, Some, None, length, slice_get, is_some}
+use Rattle.rv_isa.specs.declared.Instr.{Instr}
+use Rattle.rv_isa.specs.declared.Instr.TheVariants.{Jal}
+use Rattle.rv_isa.specs.Table.{decoded}
+use Rattle.rv_isa.specs.Encoded.{encoded}
+use Rattle.rv_isa.specs.Names.{names_register}
+use Rattle.elf_spec.specs.Records.{e_entry}
+use Rattle.elf_spec.specs.Code.{code_word}
+use Rattle.plan_core.specs.declared.types.Plan.{Plan}
+use Rattle.plan_core.specs.declared.types.PlanLine.{PlanLine}
+use Rattle.site_spec.specs.declared.Site.{Site}
+use Rattle.site_spec.specs.Places.{plus, minus, text_at, stub_at}
+use Rattle.site_spec.specs.Sites.{site_at}
+use Rattle.site_spec.specs.Plans.{Fits}
+use Rattle.site_spec.specs.Stubs.{stub_words}
+use Rattle.machine_spec.specs.Memory.{range_at, byte_of, memory_of}
+use Rattle.flat_spec.specs.Stores.{allows_store, fetched}
+use Rattle.sym_spec.specs.Plain.{is_plain, is_plain_store, is_code_byte}
+use Rattle.sym_spec.specs.SymMachine.{line_at}
+use Rattle.match_spec.specs.Matches.{text_room}
+
+-- a site is a JAL that links ra: what it calls, and where it comes back to
+pub record IsJalSite (file : List ℕ) (a : ℕ) (s : Site) : Type 0 where
+  pub word : ℕ
+  pub imm : ℕ
+  pub there : code_word file a ≡ Some word
+  pub reads : decoded word ≡ Some (Jal 1 imm)
+  pub target : s.target ≡ plus a imm
+  pub back : s.back ≡ a + 4
+  pub pair : s.pair ≡ false
+
+pub record Ground (file : List ℕ) (plan : Plan) (new : List ℕ) : Type 0 where
+  -- the plan fits, and every site is a JAL
+  pub fits : Fits file plan
+  pub few : length plan.sites ≤ 32
+  pub jal_sites : (a : ℕ) (s : Site) → site_at file a ≡ Some s → IsJalSite file a s
+  -- code words are words, aligned, of code bytes below the new text, and name no x4
+  pub words : (a w : ℕ) → code_word file a ≡ Some w → w < 2 ^ 32
+  pub aligned : (a w : ℕ) → code_word file a ≡ Some w → a % 4 ≡ 0
+  pub low_code : (a w : ℕ) → code_word file a ≡ Some w → a + 4 ≤ text_at file
+  pub code_bytes : (a w k : ℕ) → code_word file a ≡ Some w → a ≤ k → k < a + 4 → is_code_byte file k ≡ true
+  pub names : (a w : ℕ) (i : Instr) → code_word file a ≡ Some w → decoded w ≡ Some i → names_register i 4 ≡ false
+  -- plain bytes are neither code nor new text; the new text lies below the stack
+  pub plain_data : (a : ℕ) → is_plain file a ≡ true → is_code_byte file a ≡ false
+  pub plain_apart : (a : ℕ) → is_plain file a ≡ true → (a < text_at file) ⊎ (text_at file + text_room ≤ a)
+  pub low_text : text_at file + text_room ≤ 0x7FF00000
+  pub aligned_text : text_at file % 4 ≡ 0
+  -- the new file's memory has the source's plain bytes, to be stored to as there
+  pub entry : e_entry new ≡ e_entry file
+  pub plain : (a : ℕ) → is_plain file a ≡ true → byte_of (memory_of new) a ≡ byte_of (memory_of file) a
+  pub plain_there : (a : ℕ) → is_plain file a ≡ true → is_some (byte_of (memory_of new) a) ≡ true
+  pub storable : (a : ℕ) → is_plain_store file a ≡ true → allows_store (range_at (memory_of new) a) ≡ true
+  -- a code word that no site line names is as in the source
+  pub code : (a w : ℕ) → code_word file a ≡ Some w → line_at plan.sites a ≡ None → fetched (memory_of new) a ≡ Some w
+  -- the chosen site of line k jumps to stub k, and the stub's words are there
+  pub jump : (k : ℕ) (line : PlanLine) → slice_get plan.sites k ≡ Some line
+      → fetched (memory_of new) line.addr ≡ Some (encoded (Jal 0 (minus (stub_at (text_at file) k) line.addr)))
+  pub stub : (k i w : ℕ) (line : PlanLine) (s : Site) → slice_get plan.sites k ≡ Some line → site_at file line.addr ≡ Some s
+      → slice_get (stub_words (stub_at (text_at file) k) line.bit s.target s.back) i ≡ Some w
+      → fetched (memory_of new) (stub_at (text_at file) k + 4 * i) ≡ Some w

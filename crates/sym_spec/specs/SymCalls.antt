@@ -1,0 +1,86 @@
+-- The system calls of the symbol machine. A call is tested in this order: first the registers that it
+-- uses (F4), then its buffer (F1), then the bytes that it would write (F4).
+use Rattle.std.specs.Prelude.{ℕ, ◌%◌, ◌==◌, List, [], ◌||◌, Option, Some, None, map, if◌then◌else◌, take, drop, length}
+use Rattle.machine_spec.specs.declared.Ending.TheVariants.{Exit}
+use Rattle.machine_spec.specs.declared.FaultKind.TheVariants.{F1, F4}
+use Rattle.machine_spec.specs.Memory.{all_from}
+use Rattle.machine_spec.specs.Calls.{Call, Read, Write, Exits, Brk, Unknown, call_of, bad_descriptor, no_such_call}
+use Rattle.sym_spec.specs.declared.Value.{Value}
+use Rattle.sym_spec.specs.declared.Value.TheVariants.{Num, Ret, Unset}
+use Rattle.sym_spec.specs.Cells.{all_known, put_all}
+use Rattle.sym_spec.specs.Plain.{is_plain, is_plain_store}
+use Rattle.sym_spec.specs.SymMachine.{SymMachine, value_of, gives, ends, faults}
+
+-- one turn: the machine after it, the bytes that it wrote and the input that it left
+pub record SymTurn : Type 0 where
+  pub next : SymMachine
+  pub written : List ℕ
+  pub left : List ℕ
+
+abbrev pub quiet : List ℕ → SymMachine → SymTurn
+quiet input m = record { next = m; written = []; left = input }
+
+-- the call's answer, in a0
+abbrev pub answers : ℕ → SymMachine → SymMachine
+answers v m = gives 10 (Num v) m
+
+-- the word that a register holds; none where it isn't decided
+abbrev pub word_in : Value → Option ℕ
+word_in (Num w) = Some w
+word_in (Ret back) = None
+word_in Unset = None
+
+-- the address of a buffer, which is used only where its length isn't 0
+abbrev pub buffer_in : ℕ → Value → Option ℕ
+buffer_in n v = if n == 0 then Some 0 else word_in v
+
+-- a read of at most n bytes to an address, where all n can be stored
+abbrev pub reads_to : List ℕ → List ℕ → ℕ → Option ℕ → SymMachine → SymTurn
+reads_to file input n (Some a) m =
+    if all_from (is_plain_store file) a n
+    then record {
+      next = answers (length (take n input)) (record m { cells = put_all a (map (λ b. Some b) (take n input)) m.cells });
+      written = [];
+      left = drop n input;
+    }
+    else quiet input (faults F1 m)
+reads_to file input n None m = quiet input (faults F4 m)
+
+-- a write of n bytes, where they are known
+abbrev pub writes_known : List ℕ → ℕ → Option (List ℕ) → SymMachine → SymTurn
+writes_known input n (Some bytes) m = record { next = answers n m; written = bytes; left = input }
+writes_known input n None m = quiet input (faults F4 m)
+
+-- a write of the n bytes from an address on, where they are plain
+abbrev pub writes_from : List ℕ → List ℕ → ℕ → Option ℕ → SymMachine → SymTurn
+writes_from file input n (Some a) m =
+    if all_from (is_plain file) a n then writes_known input n (all_known m.cells a n) m else quiet input (faults F1 m)
+writes_from file input n None m = quiet input (faults F4 m)
+
+-- read (63) and write (64) with a length in a2 and a buffer in a1
+abbrev pub reads : List ℕ → List ℕ → Option ℕ → SymMachine → SymTurn
+reads file input (Some n) m = reads_to file input n (buffer_in n (value_of m 11)) m
+reads file input None m = quiet input (faults F4 m)
+
+abbrev pub writes : List ℕ → List ℕ → Option ℕ → SymMachine → SymTurn
+writes file input (Some n) m = writes_from file input n (buffer_in n (value_of m 11)) m
+writes file input None m = quiet input (faults F4 m)
+
+-- the turn of a call with the first argument in a0
+abbrev pub calls_with : List ℕ → List ℕ → Call → Option ℕ → SymMachine → SymTurn
+calls_with file input Read (Some fd) m =
+    if fd == 0 then reads file input (word_in (value_of m 12)) m else quiet input (answers bad_descriptor m)
+calls_with file input Write (Some fd) m =
+    if (fd == 1) || (fd == 2) then writes file input (word_in (value_of m 12)) m else quiet input (answers bad_descriptor m)
+calls_with file input Exits (Some status) m = quiet input (ends (Exit (status % 256)) m)
+calls_with file input Brk first m = quiet input (answers 0 m)
+calls_with file input Unknown first m = quiet input (answers no_such_call m)
+calls_with file input call None m = quiet input (faults F4 m)
+
+-- the call whose number is in a7
+abbrev pub calls_by : List ℕ → List ℕ → Option ℕ → SymMachine → SymTurn
+calls_by file input (Some number) m = calls_with file input (call_of number) (word_in (value_of m 10)) m
+calls_by file input None m = quiet input (faults F4 m)
+
+unfoldable pub calls : List ℕ → List ℕ → SymMachine → SymTurn
+calls file input m = calls_by file input (word_in (value_of m 17)) m
