@@ -1,0 +1,4 @@
+-- Lemmas on the grammar, on what commands come to, and on the answers of the whole call.
+pub mod Grammar
+pub mod Outcomes
+pub mod Rows

@@ -1,0 +1,77 @@
+// `rewrite PLAN FILE`: reads the plan and the file, makes the new file and writes it.
+ghost use Rattle.std.specs.Prelude.{IfOk, IfErr};
+ghost use Rattle.halo_outside.specs.Seen.{FilesSeen, SinkSeen};
+ghost use Rattle.halo_cli.specs.Words.{Asked};
+ghost use Rattle.halo_cli.specs.Words.Asked.{Rewrite};
+ghost use Rattle.halo_cli.specs.Outcomes.Outcome.{Fits};
+ghost use Rattle.halo_cli.specs.Commands.{Brings, CommandWrites};
+ghost use Rattle.halo_cli.specs.World.{OnlyReads};
+ghost use Rattle.halo_cli.specs.Ends.{HasCause, IsStop, Ends};
+
+use crate::endings::{Ending, FileRefusal, PlanRefusal};
+use halo_outside::{Failed, FileFault, Files, Sink, write_all};
+use rewriter::{FirstRefusal, rewrite_first};
+use std::alloc::Global;
+
+/// The most bytes of a plan's text.
+pub const PLAN_LIMIT: usize = 1048576;
+
+/// The most bytes of a file.
+pub const FILE_LIMIT: usize = 33554432;
+
+/// Writes the new file of the file under the plan to `out`. The plan is read first.
+pub fn rewrite_file<F: Files, O: Sink>(
+    alloc: Global,
+    plan_name: &str,
+    file_name: &str,
+    files: &mut F,
+    out: &mut O,
+) -> Ending
+    ensures { Ends (Rewrite plan_name.now file_name.now)
+        (F.seen files.old) (F.seen files.new) (O.seen out.old) (O.seen out.new) result }
+{
+    match make_new_file(alloc, plan_name, file_name, files) {
+        Err(ending) => ending,
+        Ok(new) => match write_all(out, &new) {
+            Ok(()) => Ending::Done,
+            Err(Failed) => Ending::WriteFault,
+        },
+    }
+}
+
+// The new file, or how the command ends without one.
+fn make_new_file<F: Files>(
+    alloc: Global,
+    plan_name: &str,
+    file_name: &str,
+    files: &mut F,
+) -> Result<Vec<u8>, Ending>
+    ensures reads { OnlyReads (F.seen files.old) (F.seen files.new) }
+    ensures fits { IfOk result (λ new.
+        Brings (Rewrite plan_name.now file_name.now) (F.seen files.old) (F.seen files.new) Fits) }
+    ensures made { IfOk result (λ new.
+        CommandWrites (Rewrite plan_name.now file_name.now) (F.seen files.old) (F.seen files.new) new.items) }
+    ensures stops { IfErr result IsStop }
+    ensures cause { IfErr result (HasCause
+        (Brings (Rewrite plan_name.now file_name.now) (F.seen files.old) (F.seen files.new))
+        (F.seen files.old) (F.seen files.new)) }
+{
+    let plan = match files.read(alloc, plan_name, PLAN_LIMIT) {
+        Ok(plan) => plan,
+        Err(FileFault::Failed) => return Err(Ending::ReadFault),
+        Err(FileFault::TooLong) => return Err(Ending::Plan(PlanRefusal::NotFirstForm)),
+        Err(FileFault::Memory) => return Err(Ending::Memory),
+    };
+    let file = match files.read(alloc, file_name, FILE_LIMIT) {
+        Ok(file) => file,
+        Err(FileFault::Failed) => return Err(Ending::ReadFault),
+        Err(FileFault::TooLong) => return Err(Ending::File(FileRefusal::NotFirstForm)),
+        Err(FileFault::Memory) => return Err(Ending::Memory),
+    };
+    match rewrite_first(alloc, &file, &plan) {
+        Ok(new) => Ok(new),
+        Err(FirstRefusal::File) => Err(Ending::File(FileRefusal::NotFirstForm)),
+        Err(FirstRefusal::Plan) => Err(Ending::Plan(PlanRefusal::NotFirstForm)),
+        Err(FirstRefusal::Memory) => Err(Ending::Memory),
+    }
+}
