@@ -18,9 +18,9 @@ byte_small file bytes i = by_place (nat_lt i (length file)) refl
     by_place true e = bytes i 0 (grind (arith, nat_tests))
     by_place false e = rw (get_or_past file i 0 (grind (arith, nat_tests))) (omega arith)
 
+pub keeps_behaviour : (file text new : List ℕ) → length file ≤ 33554432 → (is : IsRewriteOf file text new) → All (λ b. b < 256) file → Keeps file is.plan new
+keeps_behaviour file text new limit is bytes = subst (λ made. Keeps file is.plan made) (sym is.is_new.bytes)
+    (keeps file is.plan (rewritten file is.plan) (first_ground file text is.is_file.0 is.plan limit (byte_small file bytes) is.is_file.1 is.is_plan))
+
 pub kept : (file text new : List ℕ) → length file ≤ 33554432 → IsRewriteOf file text new → IsKeptRewrite file text new
-kept file text new limit is = record {
-  is_rewrite = is;
-  keeps = λ bytes. subst (λ made. Keeps file is.plan made) (sym is.is_new.bytes)
-      (keeps file is.plan (rewritten file is.plan) (first_ground file text is.is_file.0 is.plan limit (byte_small file bytes) is.is_file.1 is.is_plan));
-}
+kept file text new limit is = record { is_rewrite = is; keeps = keeps_behaviour file text new limit is }

@@ -4,6 +4,7 @@ pub mod Asking
 pub mod Endings
 pub mod Outcomes
 pub mod Rewrite
+pub mod Headline
 pub mod Commands
 pub mod World
 pub mod Ends

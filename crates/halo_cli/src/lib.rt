@@ -5,6 +5,7 @@ ghost use Rattle.halo_cli.specs.Words.{texts};
 ghost use Rattle.halo_cli.specs.Answers.{Answers};
 
 mod endings;
+mod headline;
 mod line;
 mod note;
 mod rewrite;
@@ -14,6 +15,7 @@ mod words;
 
 pub use endings::{Ending, FaultKind, FileRefusal, PlanRefusal};
 use halo_outside::{Files, Sink, Source};
+pub use headline::new_files_do_the_same;
 use std::alloc::Global;
 
 /// Runs the program on the words of its command line, without its own name, and gives the status with

@@ -1,0 +1,15 @@
+-- What it is for a new file to do what its source does, in the words of the two machines' runs.
+use Rattle.std.specs.Prelude.{◌≡◌, ℕ, ◌*◌, ◌≤◌, List}
+use Rattle.plan_core.specs.declared.types.Plan.{Plan}
+use Rattle.flat_spec.specs.Runs.{flat_run}
+use Rattle.sym_spec.specs.SymRuns.{sym_run}
+use Rattle.match_spec.specs.Keeps.{turn_bound}
+
+-- after so many turns the new file has written, has left of its input and has ended as its source after n
+pub record DoesTheSame (file : List ℕ) (plan : Plan) (new input : List ℕ) (n : ℕ) : Type 0 where
+  pub turns : ℕ
+  pub least : n ≤ turns
+  pub most : turns ≤ n * turn_bound plan.area
+  pub output : (flat_run new input turns).output ≡ (sym_run file plan input n).output
+  pub input_left : (flat_run new input turns).input ≡ (sym_run file plan input n).input
+  pub ending : (flat_run new input turns).machine.ending ≡ (sym_run file plan input n).machine.ending
