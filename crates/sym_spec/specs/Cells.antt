@@ -15,9 +15,6 @@ pub data Cell : Type 0 where
 abbrev pub Cells : Type 0
 Cells = ℕ → Cell
 
-abbrev pub unset_cell : Cell
-unset_cell = Bytes None None None None
-
 -- a byte of a cell; none where it isn't known
 abbrev pub byte_in : Cell → ℕ → Option ℕ
 byte_in (Bytes b0 b1 b2 b3) k = if k == 0 then b0 else (if k == 1 then b1 else (if k == 2 then b2 else b3))
