@@ -12,7 +12,7 @@ use Rattle.halo_cli.specs.Outcomes.Outcome.{Lacking, Refused, Fits}
 use Rattle.halo_cli.specs.Commands.{CommandComes, Brings}
 use Rattle.halo_cli.specs.World.{World, OnlyReads, OnlyWrites}
 use Rattle.halo_cli.specs.Ends.{HasCause, Ends, LineEnds, IsNoted, IsFinished}
-use Rattle.halo_cli.specs.Answers.{ToldBring, FilesBring, LineWrites, NotesLine, FilesFailed, OutFailed, NoteFailed, Gives, GivesIfRead, Answers}
+use Rattle.halo_cli.specs.Answers.{ToldBring, FilesBring, LineWrites, NotesLine, NotesEnding, FilesFailed, OutFailed, NoteFailed, Gives, GivesIfRead, Answers}
 use Rattle.halo_cli.proofs.Outcomes.{IsRefusal, comes_once, asks_once, first_wrong_is_no_line, Brings-refusal, Brings-lacking, Brings-told}
 
 -- each status is that of one kind of ending
@@ -221,11 +221,10 @@ module _ (words : List (List ℕ)) (before now : World) (ending : Ending) (statu
   quiet (inr (inl (is_of, not_done, line))) is = absurd (not_done (is_done ending (sym is_of ∙ is)))
   quiet (inr (inr (failed, not_done, rose, part))) is = absurd (omega arith)
 
-  noted : Ways ending before.note now.note status → 64 ≤ status → ((e : Ending) × (status_of e ≡ status) × NotesLine before now e)
-      ⊎ ((status ≡ 68) × NoteFailed before now × ((e : Ending) × AppendsPrefix before.note.told now.note.told (line_of e)))
+  noted : Ways ending before.note now.note status → 64 ≤ status → NotesEnding words before now status
   noted (inl (zero, is_done', same)) from = absurd (omega arith)
-  noted (inr (inl (is_of, not_done, line))) from = inl (ending, sym is_of, line)
-  noted (inr (inr (failed, not_done, rose, part))) from = inr (failed, rose, (ending, part))
+  noted (inr (inl (is_of, not_done, line))) from = (ending, not_done, inr (asked, asks, ends), inl (sym is_of, line))
+  noted (inr (inr (failed, not_done, rose, part))) from = (ending, not_done, inr (asked, asks, ends), inr (failed, rose, part))
 
   statuses : Ways ending before.note now.note status → (status ≡ 0) ⊎ ((64 ≤ status) × (status ≤ 69))
   statuses (inl (zero, is_done', same)) = inl zero
@@ -279,10 +278,9 @@ module _ (words : List (List ℕ)) (before now : World) (status : ℕ) (place : 
   usage_failed (inl (is, line)) is' = absurd (omega arith)
   usage_failed (inr (is, rose, part)) is' = rose
 
-  usage_line : IsNoted (Usage place) before.note now.note status → ((e : Ending) × (status_of e ≡ status) × NotesLine before now e)
-      ⊎ ((status ≡ 68) × NoteFailed before now × ((e : Ending) × AppendsPrefix before.note.told now.note.told (line_of e)))
-  usage_line (inl (is, line)) = inl (Usage place, sym is, line)
-  usage_line (inr (is, rose, part)) = inr (is, rose, (Usage place, part))
+  usage_line : IsNoted (Usage place) before.note now.note status → NotesEnding words before now status
+  usage_line (inl (is, line)) = (Usage place, λ e. cc, inl (place, refl, wrong, files, out), inl (sym is, line))
+  usage_line (inr (is, rose, part)) = (Usage place, λ e. cc, inl (place, refl, wrong, files, out), inr (is, rose, part))
 
   in_usage : (P : Type 0) → IsNoted (Usage place) before.note now.note status → (status ≡ 64 → ⊥) → (status ≡ 68 → ⊥) → P
   in_usage P noted not_64 not_68 = absurd (⊎_elim not_64 not_68 (usage_status noted))

@@ -1,8 +1,8 @@
 -- What the answer of the whole call means: the table of statuses.
-use Rattle.std.specs.Prelude.{◌≡◌, ℕ, ◌≤◌, ◌⊎◌, List, Some}
+use Rattle.std.specs.Prelude.{◌≡◌, ◌≢◌, ℕ, ◌≤◌, ◌⊎◌, List, Some}
 use Rattle.halo_outside.specs.Seen.{Contents, Rose, Appends, AppendsPrefix}
 use Rattle.halo_cli.specs.declared.endings.Ending.{Ending}
-use Rattle.halo_cli.specs.declared.endings.Ending.TheVariants.{Usage, File, Plan}
+use Rattle.halo_cli.specs.declared.endings.Ending.TheVariants.{Done, Usage, File, Plan}
 use Rattle.halo_cli.specs.declared.endings.FileRefusal.{FileRefusal}
 use Rattle.halo_cli.specs.declared.endings.PlanRefusal.{PlanRefusal}
 use Rattle.halo_cli.specs.Words.{Asked, AsksFor, IsLine, IsFirstWrong}
@@ -11,6 +11,7 @@ use Rattle.halo_cli.specs.Outcomes.{Outcome}
 use Rattle.halo_cli.specs.Outcomes.Outcome.{Lacking, Refused, Fits}
 use Rattle.halo_cli.specs.Commands.{CommandComes, Brings, CommandWrites}
 use Rattle.halo_cli.specs.World.{World, Keeps}
+use Rattle.halo_cli.specs.Ends.{LineEnds}
 
 -- the files tell contents, and these bring the line to this outcome
 abbrev pub ToldBring : List (List ℕ) → World → Outcome → Type 0
@@ -30,6 +31,14 @@ LineWrites words before now new =
 -- the line of this ending was appended to note
 abbrev pub NotesLine : World → World → Ending → Type 0
 NotesLine before now ending = Appends before.note.told now.note.told (line_of ending)
+
+-- note has the line of how the words ended, or failed after some first bytes of it
+abbrev pub NotesEnding : List (List ℕ) → World → World → ℕ → Type 0
+NotesEnding words before now status = (ending : Ending) × (ending ≢ Done)
+    × LineEnds words before.files now.files before.out now.out ending
+    × (((status_of ending ≡ status) × NotesLine before now ending)
+    ⊎ ((status ≡ 68) × Rose before.note.faults now.note.faults
+    × AppendsPrefix before.note.told now.note.told (line_of ending)))
 
 -- a read, a write to out, a write to note failed in the call
 abbrev pub FilesFailed : World → World → Type 0
@@ -85,12 +94,9 @@ pub record Answers (words : List (List ℕ)) (before now : World) (status : ℕ)
   pub partial : status ≡ 68 → (now.out ≡ before.out)
       ⊎ (OutFailed before now × ((new : List ℕ)
       × LineWrites words before now new × AppendsPrefix before.out.told now.out.told new))
-  -- note is as before at 0; from 64 on it has the whole line of the status, or failed after some first bytes of a line
+  -- note is as before at 0; from 64 on it has the line of the ending, or failed after some first bytes of it
   pub quiet : status ≡ 0 → now.note ≡ before.note
-  pub noted : 64 ≤ status
-      → ((ending : Ending) × (status_of ending ≡ status) × NotesLine before now ending)
-      ⊎ ((status ≡ 68) × NoteFailed before now
-      × ((ending : Ending) × AppendsPrefix before.note.told now.note.told (line_of ending)))
+  pub noted : 64 ≤ status → NotesEnding words before now status
   -- the input, told contents and counts
   pub kept : Keeps before now
   -- there are no other statuses
