@@ -8,5 +8,6 @@ pub mod EndedNames
 pub mod Finds
 pub mod Sizes
 pub mod Below
+pub mod SortedSpans
 pub mod TablesInside
 pub mod ReadableFacts

@@ -1,6 +1,7 @@
--- The layout of an executable of the first form: the file header and one program header, zero bytes
--- up to 256, then code words, relocation entries, symbols and strings, each directly behind the one
--- before, and the five section headers (gABI, "ELF Header", "Program Header", "Section Header").
+-- The layout of an executable of the first form: the file header and one program header, bytes up to
+-- 256 of which nothing is asked, then code words, relocation entries, symbols and strings, each
+-- directly behind the one before, and the five section headers (gABI, "ELF Header", "Program Header",
+-- "Section Header").
 use Rattle.std.specs.Prelude.{ℕ, ◌+◌, ◌*◌, List, [], ◌∷◌, ◌++◌}
 use Rattle.elf_spec.specs.declared.Segment.{Segment}
 use Rattle.elf_spec.specs.declared.Section.{Section}

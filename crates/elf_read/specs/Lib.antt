@@ -2,6 +2,7 @@ pub mod FirstLayout
 pub mod First
 pub mod Checks
 pub mod Refusals
+pub mod Overlaps
 pub mod Symbols
 pub mod Readable
 pub mod Elf

@@ -12,6 +12,7 @@ mod first_symbols;
 mod flag_bits;
 mod header;
 mod names;
+mod overlaps;
 mod read_file;
 mod refusals;
 mod sections;

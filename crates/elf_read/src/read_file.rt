@@ -7,9 +7,10 @@ ghost use Rattle.elf_read.specs.Readable.{ReadableFacts};
 use crate::elf_file::Elf;
 use crate::fields::{half, word};
 use crate::header::{E_ENTRY, E_FLAGS, E_PHNUM, E_PHOFF, E_SHNUM, E_SHOFF, check_header};
+use crate::overlaps::check_overlap;
 use crate::refusals::ElfRefusal;
 use crate::sections::{check_sections, read_sections};
-use crate::segments::{check_kinds, check_large, check_out, check_overlap, read_segments};
+use crate::segments::{check_kinds, check_large, check_out, read_segments};
 use crate::symbols::read_symbols;
 use std::alloc::Global;
 
@@ -34,7 +35,7 @@ pub fn read_elf(alloc: Global, file: &[u8]) -> Result<Elf, ElfRefusal>
     let program_headers = segments.as_slice();
     check_kinds(program_headers)?;
     check_out(program_headers, file.len())?;
-    check_overlap(program_headers)?;
+    check_overlap(alloc, program_headers)?;
     check_large(program_headers)?;
     let Ok(sections) = read_sections(
         alloc,

@@ -1,11 +1,11 @@
 // The program headers of a file and their checks (gABI, "Program Header", "Program Loading").
 
-ghost use Rattle.std.specs.Prelude.{◌≡◌, ◌+◌, ◌*◌, ◌<◌, ◌≤◌, ◌^◌, length, IfOk, IfSome, []};
-ghost use Rattle.std.specs.List.{list_any, position};
+ghost use Rattle.std.specs.Prelude.{◌≡◌, ◌+◌, ◌*◌, ◌<◌, ◌≤◌, ◌^◌, length, IfOk, IfSome};
+ghost use Rattle.std.specs.List.{position};
 ghost use Rattle.elf_spec.specs.Records.{entries, segment_at};
 ghost use Rattle.elf_spec.specs.Memory.{is_loaded};
-ghost use Rattle.elf_read.specs.Checks.{is_refused_kind, is_segment_out, is_shared, meets};
-ghost use Rattle.elf_read.specs.Refusals.{Says, memory_size, overlap_after, segment_kind, segment_out, segment_overlap, too_large};
+ghost use Rattle.elf_read.specs.Checks.{is_refused_kind, is_segment_out};
+ghost use Rattle.elf_read.specs.Refusals.{Says, memory_size, segment_kind, segment_out, too_large};
 
 use crate::elf_file::SegmentList;
 use crate::fields::word;
@@ -89,7 +89,7 @@ pub(crate) fn check_kinds(segments: &[Segment]) -> Result<(), ElfRefusal>
 }
 
 /// Whether a segment is a PT_LOAD that takes memory.
-fn is_loaded(s: &Segment) -> bool
+pub(crate) fn is_loaded(s: &Segment) -> bool
     ensures { result ≡ is_loaded s.now }
 {
     s.kind == PT_LOAD && s.mem_size > 0
@@ -120,54 +120,6 @@ pub(crate) fn check_out(segments: &[Segment], bytes: usize) -> Result<(), ElfRef
 {
     match first_out(segments, bytes) {
         Some(i) => Err(ElfRefusal::SegmentOut(i as u32)),
-        None => Ok(()),
-    }
-}
-
-/// Whether two ranges, each given by its start and size, have a number in common.
-fn is_shared(a: u32, m: u32, b: u32, n: u32) -> bool
-    ensures { result ≡ is_shared a m b n }
-{
-    m > 0 && n > 0 && (a as u64) < b as u64 + n as u64 && (b as u64) < a as u64 + m as u64
-}
-
-/// Whether two loaded segments have an address or a file byte in common.
-fn meet(s: &Segment, t: &Segment) -> bool
-    ensures { result ≡ meets s.now t.now }
-{
-    is_loaded(s)
-        && is_loaded(t)
-        && (is_shared(s.vaddr, s.mem_size, t.vaddr, t.mem_size)
-            || is_shared(s.offset, s.file_size, t.offset, t.file_size))
-}
-
-fn meets_one(front: &[Segment], s: &Segment) -> bool
-    ensures { result ≡ list_any (λ t. meets t s.now) front.now }
-{
-    front.iter().any(|t| meet(t, s))
-}
-
-/// The first segment that meets one before it.
-fn first_overlap(segments: &[Segment]) -> Option<usize>
-    ensures first { result ≡ overlap_after [] 0 segments.now }
-    ensures inside { IfSome result (λ i. i < length segments.now) }
-{
-    for i in 0..segments.len() {
-        if meets_one(&segments[..i], &segments[i]) {
-            return Some(i);
-        }
-    }
-    None
-}
-
-/// Checks that no two loaded segments have an address or a file byte in common.
-#[tactic(auto, unfolding(crate::specs::Refusals::segment_overlap))]
-pub(crate) fn check_overlap(segments: &[Segment]) -> Result<(), ElfRefusal>
-    requires { length segments.now < 2 ^ 32 }
-    ensures { Says result (segment_overlap segments.now) }
-{
-    match first_overlap(segments) {
-        Some(i) => Err(ElfRefusal::SegmentOverlap(i as u32)),
         None => Ok(()),
     }
 }

@@ -274,8 +274,9 @@ fn two_segments(alloc: Global, changes: &[(usize, u8)]) -> Result<Vec<u8>, Alloc
 
 #[test]
 fn refuses_changed_second_segments(rt: HostRuntime) -> Result<(), Fail> {
-    let cases: [(&[(usize, u8)], &str); 9] = [
+    let cases: [(&[(usize, u8)], &str); 10] = [
         (&[], "read"),
+        (&[(88, 0x10), (89, 0), (100, 0)], "read"),
         (&[(88, 0x30)], "read"),
         (&[(88, 0x2f)], "segment 1 overlaps"),
         (&[(92, 0x30), (93, 1), (94, 1)], "read"),
