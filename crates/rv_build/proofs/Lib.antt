@@ -1,0 +1,3 @@
+pub mod Assoc
+pub mod ReadBack
+pub mod ReadsLaw

@@ -1,0 +1,4 @@
+pub mod Parts
+pub mod RecordBytes
+pub mod Built
+pub mod Reads
