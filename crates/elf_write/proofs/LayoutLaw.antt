@@ -9,7 +9,7 @@ use Rattle.elf_spec.specs.Fields.{half_at, word_at, word_bytes}
 use Rattle.elf_spec.specs.NewFile.{contents, front, new_file, new_headers, table_end, up16}
 use Rattle.elf_spec.specs.Records.{e_phnum, e_phoff, e_shnum, e_shoff, entries, section_at, sections_of, segment_at, segments_of}
 use Rattle.elf_write.specs.Ends.{new_length}
-use Rattle.elf_write.specs.Inputs.{IsInside}
+use Rattle.elf_write.specs.Inputs.{HasTable, IsInside}
 use Rattle.elf_write.specs.Layout.{AreApart, IsBeside, IsKept, IsWithin, NewLayout, file_part, headers_added}
 use Rattle.elf_write.proofs.Written.{byte-front, byte-patched, front_patched, front_phnum, front_phoff, length-front, half_same, word-bytes, word_same}
 use Rattle.elf_write.proofs.Headers.{entries-add, entries_same, headers_back, length-contents, length-new_headers, parts_back, section_same, segment_same, within_end}
@@ -17,18 +17,18 @@ use Rattle.elf_write.proofs.Headers.{entries-add, entries_same, headers_back, le
 -- what the law asks of the old file and the patches
 pub record IsReady (old : List ℕ) (ps : List Patch) : Type 0 where
   pub long : 52 ≤ length old
-  pub table : e_phoff old + 32 * e_phnum old ≤ length old
+  pub table : HasTable old
   pub inside : All (IsInside (length old)) ps
 
 -- the parts behind the old bytes
-abbrev gap : List ℕ → List ℕ
+abbrev pub gap : List ℕ → List ℕ
 gap old = replicate (up16 (length old) - length old) 0
 
-abbrev old_table : List ℕ → List ℕ
+abbrev pub old_table : List ℕ → List ℕ
 old_table old = take (32 * e_phnum old) (drop (e_phoff old) old)
 
 -- the new file is its front and something behind it
-front_first : (old : List ℕ) (ps : List Patch) (ss : List NewSegment) → new_file old ps ss ≡ front old ps (length ss) ++ (gap old ++ (old_table old ++ (new_headers (table_end old ss) ss ++ contents (table_end old ss) ss)))
+pub front_first : (old : List ℕ) (ps : List Patch) (ss : List NewSegment) → new_file old ps ss ≡ front old ps (length ss) ++ (gap old ++ (old_table old ++ (new_headers (table_end old ss) ss ++ contents (table_end old ss) ss)))
 unfolding new_file
 front_first old ps ss = simp append_assoc
 
@@ -52,8 +52,16 @@ new_phnum old ps ss h =
 length-gap : (old : List ℕ) → length (gap old) ≡ up16 (length old) - length old
 length-gap old = length-replicate {A = ℕ} (up16 (length old) - length old) 0
 
-length-old_table : (old : List ℕ) → e_phoff old + 32 * e_phnum old ≤ length old → length (old_table old) ≡ 32 * e_phnum old
-length-old_table old h = length-take-le (32 * e_phnum old) (drop (e_phoff old) old) (let e : length (drop (e_phoff old) old) ≡ length old - e_phoff old = length-drop (e_phoff old) old in omega arith)
+-- a table without entries needs no place
+table_fits : (at n long : ℕ) → (0 < n → at + 32 * n ≤ long) → 32 * n ≤ long - at
+table_fits at zero long h = omega arith
+table_fits at (suc n) long h = let l : at + 32 * suc n ≤ long = h (omega arith) in omega (arith, l)
+
+length-old_table : (old : List ℕ) → HasTable old → length (old_table old) ≡ 32 * e_phnum old
+length-old_table old h =
+    let e : length (drop (e_phoff old) old) ≡ length old - e_phoff old = length-drop (e_phoff old) old in
+    let fits : 32 * e_phnum old ≤ length old - e_phoff old = table_fits (e_phoff old) (e_phnum old) (length old) h in
+    length-take-le (32 * e_phnum old) (drop (e_phoff old) old) (omega (arith, e, fits))
 
 length_before : (old : List ℕ) (ps : List Patch) (more : ℕ) → length (front old ps more ++ gap old) ≡ up16 (length old)
 length_before old ps more =
@@ -61,19 +69,19 @@ length_before old ps more =
     let b : length (gap old) ≡ up16 (length old) - length old = length-gap old in
     length-append (front old ps more) (gap old) ∙ omega arith
 
-length_through : (old : List ℕ) (ps : List Patch) (more : ℕ) → e_phoff old + 32 * e_phnum old ≤ length old → length ((front old ps more ++ gap old) ++ old_table old) ≡ up16 (length old) + 32 * e_phnum old
+length_through : (old : List ℕ) (ps : List Patch) (more : ℕ) → HasTable old → length ((front old ps more ++ gap old) ++ old_table old) ≡ up16 (length old) + 32 * e_phnum old
 length_through old ps more h =
     let a : length (front old ps more ++ gap old) ≡ up16 (length old) = length_before old ps more in
     let b : length (old_table old) ≡ 32 * e_phnum old = length-old_table old h in
     length-append (front old ps more ++ gap old) (old_table old) ∙ omega arith
 
-length_headers : (old : List ℕ) (ps : List Patch) (ss : List NewSegment) → e_phoff old + 32 * e_phnum old ≤ length old → length (((front old ps (length ss) ++ gap old) ++ old_table old) ++ new_headers (table_end old ss) ss) ≡ table_end old ss
+length_headers : (old : List ℕ) (ps : List Patch) (ss : List NewSegment) → HasTable old → length (((front old ps (length ss) ++ gap old) ++ old_table old) ++ new_headers (table_end old ss) ss) ≡ table_end old ss
 length_headers old ps ss h =
     let a : length ((front old ps (length ss) ++ gap old) ++ old_table old) ≡ up16 (length old) + 32 * e_phnum old = length_through old ps (length ss) h in
     let b : length (new_headers (table_end old ss) ss) ≡ 32 * length ss = length-new_headers ss (table_end old ss) in
     length-append ((front old ps (length ss) ++ gap old) ++ old_table old) (new_headers (table_end old ss) ss) ∙ omega arith
 
-pub length-new_file : (old : List ℕ) (ps : List Patch) (ss : List NewSegment) → e_phoff old + 32 * e_phnum old ≤ length old → length (new_file old ps ss) ≡ new_length old ss
+pub length-new_file : (old : List ℕ) (ps : List Patch) (ss : List NewSegment) → HasTable old → length (new_file old ps ss) ≡ new_length old ss
 unfolding new_file
 length-new_file old ps ss h =
     length-append (((front old ps (length ss) ++ gap old) ++ old_table old) ++ new_headers (table_end old ss) ss) (contents (table_end old ss) ss)
@@ -128,13 +136,13 @@ added_parts old ps ss r = parts_back ss (table_end old ss) (((front old ps (leng
 new_kept : (old : List ℕ) (ps : List Patch) (ss : List NewSegment) (i : ℕ) → IsKept (length old) ps i → slice_index (new_file old ps ss) i ≡ slice_index old i
 new_kept old ps ss i k = byte-new_file old ps ss i k.inside ∙ (byte-front old ps (length ss) i k.no_phoff k.no_phnum ∙ byte-patched ps old i k.no_patch)
 
-new_longer : (old : List ℕ) (ps : List Patch) (ss : List NewSegment) → e_phoff old + 32 * e_phnum old ≤ length old → length old ≤ length (new_file old ps ss)
+new_longer : (old : List ℕ) (ps : List Patch) (ss : List NewSegment) → HasTable old → length old ≤ length (new_file old ps ss)
 new_longer old ps ss h =
     let e : length (new_file old ps ss) ≡ new_length old ss = length-new_file old ps ss h in
     let c : table_end old ss + length (contents (table_end old ss) ss) ≡ new_length old ss = length-contents ss (table_end old ss) in
     omega arith
 
-new_kept_part : (old : List ℕ) (ps : List Patch) (ss : List NewSegment) → e_phoff old + 32 * e_phnum old ≤ length old → (i n : ℕ) → ((k : ℕ) → k < n → IsKept (length old) ps (i + k)) → take n (drop i (new_file old ps ss)) ≡ take n (drop i old)
+new_kept_part : (old : List ℕ) (ps : List Patch) (ss : List NewSegment) → HasTable old → (i n : ℕ) → ((k : ℕ) → k < n → IsKept (length old) ps (i + k)) → take n (drop i (new_file old ps ss)) ≡ take n (drop i old)
 new_kept_part old ps ss h i zero w = refl
 new_kept_part old ps ss h i (suc n) w =
     let new : List ℕ = new_file old ps ss in
@@ -153,7 +161,7 @@ new_kept_half : (old : List ℕ) (ps : List Patch) (ss : List NewSegment) (i : �
 new_kept_half old ps ss i k l = half_same (new_file old ps ss) old i (new_kept old ps ss i k) (new_kept old ps ss (i + 1) l)
 
 -- a byte of the file header beside the two fields is kept where no patch is in the header
-header_kept : (old : List ℕ) (ps : List Patch) → 52 ≤ length old → All (λ p. 52 ≤ p.offset) ps → (i : ℕ) → i < 52 → IsBeside 28 4 i → IsBeside 44 2 i → IsKept (length old) ps i
+pub header_kept : (old : List ℕ) (ps : List Patch) → 52 ≤ length old → All (λ p. 52 ≤ p.offset) ps → (i : ℕ) → i < 52 → IsBeside 28 4 i → IsBeside 44 2 i → IsKept (length old) ps i
 header_kept old ps h w i l a b = record {
   inside = omega arith;
   no_phoff = a;

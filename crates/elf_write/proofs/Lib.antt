@@ -4,3 +4,6 @@ pub mod Written
 pub mod Headers
 pub mod LayoutLaw
 pub mod LoadingLaw
+pub mod StillReadable
+pub mod MemoryLaw
+pub mod Above

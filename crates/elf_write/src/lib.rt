@@ -3,35 +3,31 @@
 
 ghost use Rattle.std.specs.Prelude.{◌≡◌, ◌+◌, ◌*◌, ◌≤◌, length, All, IfOk};
 ghost use Rattle.elf_spec.specs.NewFile.{new_file};
-ghost use Rattle.elf_spec.specs.Records.{e_phnum, e_phoff};
-ghost use Rattle.elf_write.specs.Inputs.{IsInside, IsSmall};
+ghost use Rattle.elf_spec.specs.Records.{e_phnum};
+ghost use Rattle.elf_write.specs.Inputs.{HasTable, IsInside, IsSmall};
 ghost use Rattle.elf_write.specs.Layout.{NewLayout};
 ghost use Rattle.elf_write.specs.Places.{NewLoading};
 
 mod bytes;
 mod contents;
+mod from_elf;
 mod front;
 mod table;
 
 use contents::{contents_end, push_contents};
 use elf_spec::{NewSegment, Patch};
+pub use from_elf::with_segments;
 use front::front_copy;
 use std::alloc::{AllocError, Global};
 use table::{push_headers, push_old_headers, table_end, table_place};
-
-/// Flag of a program header: the segment may be executed (gABI, "Segment Permissions").
-pub const PF_X: u32 = 1;
-/// Flag of a program header: the segment may be written.
-pub const PF_W: u32 = 2;
-/// Flag of a program header: the segment may be read.
-pub const PF_R: u32 = 4;
 
 /// The bytes of `file` with `patches` and with `segments` added behind them: the program header
 /// table moves to the next multiple of 16 behind the old bytes, and each added segment stands at
 /// the next multiple of 4096 from what is before it (gABI, "Program Header").
 ///
-/// The old program headers are copied as they stand in `file`, without patches. A later patch wins
-/// over an earlier one of the same bytes. The one failure is want of memory.
+/// The old program headers are copied as they stand in `file`, without patches; where there are none,
+/// their place in `file` is not looked at. A later patch wins over an earlier one of the same bytes.
+/// The one failure is want of memory.
 #[tactic(auto, unfolding(elf_spec::specs::NewFile::new_file))]
 pub fn with_new_segments(
     alloc: Global,
@@ -41,7 +37,7 @@ pub fn with_new_segments(
 ) -> Result<Vec<u8>, AllocError>
     requires has_file_header { 52 ≤ length file.now }
     requires fits_32_mib { length file.now ≤ 33554432 }
-    requires has_table { e_phoff file.now + 32 * e_phnum file.now ≤ length file.now }
+    requires has_table { HasTable file.now }
     requires has_few_headers { e_phnum file.now ≤ 64 }
     requires patches_inside { All (IsInside (length file.now)) patches.now }
     requires few_segments { length segments.now ≤ 2 }
@@ -70,6 +66,7 @@ pub fn with_new_segments(
 #[cfg(test)]
 mod tests {
     use super::*;
+    use elf_read::read_elf;
     use elf_spec::ByteList;
     use std::test::Fail;
 
@@ -149,13 +146,13 @@ mod tests {
         let segments = [
             NewSegment {
                 vaddr: 0x11000,
-                flags: PF_R | PF_X,
+                flags: 5, // read and execute
                 mem_size: 3,
                 bytes: ByteList::from(vec![in rt.alloc(); 1, 2, 3]?),
             },
             NewSegment {
                 vaddr: 0x16000,
-                flags: PF_R | PF_W,
+                flags: 6, // read and write
                 mem_size: 4096,
                 bytes: ByteList::from(vec![in rt.alloc(); 7, 8, 9, 10, 11]?),
             },
@@ -167,6 +164,32 @@ mod tests {
         assert_eq!(rt; part(&new, 4096, 4099), [1, 2, 3].as_slice());
         assert!(rt; part(&new, 4099, 8192).iter().all(|byte| *byte == 0));
         assert_eq!(rt; part(&new, 8192, 8197), [7, 8, 9, 10, 11].as_slice());
+        Ok(())
+    }
+
+    #[test]
+    fn new_file_of_a_read_file_is_read_again(rt: HostRuntime) -> Result<(), Fail> {
+        let Ok(elf) = read_elf(rt.alloc(), &FILE) else {
+            assert!(rt; false, "the file is readable");
+            return Ok(());
+        };
+        let patches = [Patch {
+            offset: 84,
+            word: 0x0011_2233,
+        }];
+        let segments = [NewSegment {
+            vaddr: 0x11000,
+            flags: 5, // read and execute
+            mem_size: 3,
+            bytes: ByteList::from(vec![in rt.alloc(); 1, 2, 3]?),
+        }];
+        let new = with_segments(rt.alloc(), &elf, &FILE, &patches, &segments)?;
+        assert_eq!(rt; new.len(), 4099);
+        let Ok(again) = read_elf(rt.alloc(), &new) else {
+            assert!(rt; false, "the new file is readable");
+            return Ok(());
+        };
+        assert_eq!(rt; again.segments.as_slice().len(), 2);
         Ok(())
     }
 }

@@ -2,7 +2,7 @@
 ghost use Rattle.std.specs.Prelude.{◌≡◌, ◌+◌, ◌*◌, ◌^◌, ◌<◌, ◌≤◌, ◌++◌, take, drop, length, All, OnOk};
 ghost use Rattle.elf_spec.specs.NewFile.{header_bytes, new_headers, up16};
 ghost use Rattle.elf_spec.specs.Records.{e_phnum, e_phoff};
-ghost use Rattle.elf_write.specs.Inputs.{IsSmall};
+ghost use Rattle.elf_write.specs.Inputs.{HasTable, IsSmall};
 
 use crate::bytes::{push_word, read_half, read_word};
 use crate::contents::{PAGE, next_page};
@@ -53,13 +53,15 @@ pub fn table_end(file: &[u8], more: usize) -> usize
 /// Adds the old program headers as they stand in `file`.
 pub fn push_old_headers(out: &mut Vec<u8>, file: &[u8]) -> Result<(), AllocError>
     requires has_file_header { 52 ≤ length file.now }
-    requires has_table { e_phoff file.now + 32 * e_phnum file.now ≤ length file.now }
+    requires has_table { HasTable file.now }
     ensures is { OnOk result (out.new.items ≡ out.old.items ++ take (32 * e_phnum file.now) (drop (e_phoff file.now) file.now)) }
     ensures long { OnOk result (length out.new.items ≡ length out.old.items + 32 * e_phnum file.now) }
 {
-    let start = read_word(file, E_PHOFF) as usize;
-    let end = start + HEADER_SIZE * header_count(file);
-    out.extend_from_slice(&file[start..end])?;
+    let count = header_count(file);
+    if count > 0 {
+        let start = read_word(file, E_PHOFF) as usize;
+        out.extend_from_slice(&file[start..start + HEADER_SIZE * count])?;
+    }
     Ok(())
 }
 

@@ -84,7 +84,7 @@ laid file first plan known facts lines distinct = from_layout (subst (λ ps. New
     ready : IsReady file (patches_from file 0 plan.sites)
     ready = record {
       long = omega (arith, long);
-      table = omega (arith, facts.phoff, facts.phnum, long);
+      table = λ some. omega (arith, facts.phoff, facts.phnum, long);
       inside = subst (λ ps. All (IsInside (length file)) ps) (sym patches) (all_patches (IsInside (length file)) file 0 plan.sites
           (λ i line e. let l : IsJalLine file first.words line = line_is file first.words i plan.sites line lines e in
           let high : line.addr < 65792 + 4 * first.words = l.high in
