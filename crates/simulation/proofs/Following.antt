@@ -25,7 +25,8 @@ use Rattle.simulation.proofs.InMemory.{InMemory}
 use Rattle.simulation.proofs.Stepping.{InStep}
 use Rattle.simulation.proofs.Calling.{TurnsAlike, quiet_alike}
 use Rattle.simulation.proofs.Acting.{IsPlainInstr}
-use Rattle.simulation.proofs.Way.{running, one_step}
+use Rattle.site_stubs.specs.StubRuns.{state_of}
+use Rattle.simulation.proofs.Steps.{one_step}
 
 -- so many flat turns lead to a machine in step, with the same input left and the same bytes written
 pub record Follows (file : List ℕ) (plan : Plan) (new : List ℕ) (t : SymTurn) (m : Machine) (input output : List ℕ) : Type 0 where
@@ -33,7 +34,7 @@ pub record Follows (file : List ℕ) (plan : Plan) (new : List ℕ) (t : SymTurn
   pub some : 1 ≤ turns
   pub few : turns ≤ 7
   pub machine : Machine
-  pub is : steps turns (running m input output) ≡ running machine t.left (output ++ t.written)
+  pub is : steps turns (state_of m input output) ≡ state_of machine t.left (output ++ t.written)
   pub next : InStep file plan new t.next machine
 
 -- one turn that is alike
@@ -45,8 +46,8 @@ follows_one file plan new t m input output h = record {
   some = omega arith;
   few = omega arith;
   machine = (flat.turn input m).next;
-  is = one_step (running m input output)
-      ∙ (ap (λ l. running (flat.turn input m).next l (output ++ (flat.turn input m).written)) h.left ∙ ap (λ w. running (flat.turn input m).next t.left (output ++ w)) h.written);
+  is = one_step (state_of m input output)
+      ∙ (ap (λ l. state_of (flat.turn input m).next l (output ++ (flat.turn input m).written)) h.left ∙ ap (λ w. state_of (flat.turn input m).next t.left (output ++ w)) h.written);
   next = h.next;
 }
 

@@ -6,7 +6,6 @@ use Rattle.plan_core.specs.declared.types.Plan.{Plan}
 use Rattle.sym_spec.specs.declared.Value.{Value}
 use Rattle.sym_spec.specs.declared.Value.TheVariants.{Num, Unset}
 use Rattle.simulation.proofs.Operations.{Holds, holds_num, holds_unset}
-use Rattle.simulation.proofs.Way.{Changed}
 
 -- what a register reads, on either machine
 abbrev pub value_in_list : List Value → ℕ → Value
@@ -91,28 +90,39 @@ put_unset file plan values words bits r h small other = record {
         subst (λ t. Holds file plan (cond t (Num 0) (slice_index_or values k Unset)) (cond t 0 (slice_index words k))) e (h.holds k low n) in
         rw (get_or-set_other values r k Unset Unset apart) before
 
--- x0, x1 and x4 changed on the flat machine: x1 and the bits are given anew
+-- a write to x0 is never read
+pub zero_unread : (words : List ℕ) (w k : ℕ) → word_in_list (slice_set words 0 w) k ≡ word_in_list words k
+zero_unread words w k = at (nat_eq k 0) refl
+  where
+    at : (z : Bool) → nat_eq k 0 ≡ z → cond (nat_eq k 0) 0 (slice_index (slice_set words 0 w) k) ≡ cond (nat_eq k 0) 0 (slice_index words k)
+    at true e = rw e refl
+    at false e = let other : k ≢ 0 = grind (arith, nat_tests) in rw e (get_or-set_other words 0 k w 0 other)
+
+-- x1 and x4 changed on the flat machine: x1 and the bits are given anew
 pub changed_registers : (file : List ℕ) (plan : Plan) (values : List Value) (words now : List ℕ) (bits one four : ℕ) (v : Value)
-    → InRegisters file plan values words bits → Changed words now one four → Holds file plan v one
+    → InRegisters file plan values words bits → length now ≡ 32 → word_in_list now 1 ≡ one → word_in_list now 4 ≡ four
+    → ((k : ℕ) → k ≢ 1 → k ≢ 4 → word_in_list now k ≡ word_in_list words k) → Holds file plan v one
     → InRegisters file plan (slice_set values 1 v) now four
-changed_registers file plan values words now bits one four v h changed holds = record {
-  holds = λ k low n. at k low n (nat_eq k 0) refl (nat_eq k 1) refl;
-  bits_there = changed.bits;
+changed_registers file plan values words now bits one four v h long first there others holds = record {
+  holds = λ k low n. at k low n (nat_eq k 1) refl;
+  bits_there = there;
   spare = let apart : 4 ≢ 1 = omega arith in get_or-set_other values 1 4 v Unset apart ∙ h.spare;
-  long = changed.long;
+  long = long;
   sym_long = length-set values 1 v ∙ h.sym_long;
 }
   where
-    at : (k : ℕ) → k < 32 → k ≢ 4 → (z : Bool) → nat_eq k 0 ≡ z → (s : Bool) → nat_eq k 1 ≡ s
-        → Holds file plan (cond z (Num 0) (slice_index_or (slice_set values 1 v) k Unset)) (cond z 0 (slice_index now k))
-    at k low n true e s f = holds_num file plan 0
-    at k low n false e true f =
+    same_value : (k : ℕ) → k ≢ 1 → value_in_list (slice_set values 1 v) k ≡ value_in_list values k
+    same_value k apart = by_zero (nat_eq k 0)
+      where
+        by_zero : (z : Bool) → cond z (Num 0) (slice_index_or (slice_set values 1 v) k Unset) ≡ cond z (Num 0) (slice_index_or values k Unset)
+        by_zero true = refl
+        by_zero false = get_or-set_other values 1 k v Unset apart
+
+    at : (k : ℕ) → k < 32 → k ≢ 4 → (s : Bool) → nat_eq k 1 ≡ s → Holds file plan (value_in_list (slice_set values 1 v) k) (word_in_list now k)
+    at k low n true f =
         let same : k ≡ 1 = grind (arith, nat_tests) in
         let inside : 1 < length values = omega (arith, h.sym_long) in
-        rw (same, get_or-set_same values 1 v Unset inside, changed.first) holds
-    at k low n false e false f =
+        rw (same, get_or-set_same values 1 v Unset inside, first) holds
+    at k low n false f =
         let apart : k ≢ 1 = grind (arith, nat_tests) in
-        let other : k ≢ 0 = grind (arith, nat_tests) in
-        let before : Holds file plan (cond false (Num 0) (slice_index_or values k Unset)) (cond false 0 (slice_index words k)) =
-        subst (λ t. Holds file plan (cond t (Num 0) (slice_index_or values k Unset)) (cond t 0 (slice_index words k))) e (h.holds k low n) in
-        rw (get_or-set_other values 1 k v Unset apart, changed.others k other apart n) before
+        rw (same_value k apart, others k apart n) (h.holds k low n)

@@ -28,7 +28,8 @@ use Rattle.simulation.proofs.InMemory.{InMemory}
 use Rattle.simulation.proofs.Operations.{Holds, holds_num}
 use Rattle.simulation.proofs.Registers.{InRegisters}
 use Rattle.simulation.proofs.Stepping.{InStep}
-use Rattle.simulation.proofs.Way.{running, more_steps}
+use Rattle.site_stubs.specs.StubRuns.{state_of}
+use Rattle.simulation.proofs.Steps.{more_steps}
 use Rattle.simulation.proofs.Following.{Follows}
 use Rattle.simulation.proofs.Turning.{turn_follows}
 
@@ -108,7 +109,7 @@ pub record InRun (file : List ℕ) (plan : Plan) (new input : List ℕ) (n : ℕ
   pub least : n ≤ turns
   pub most : turns ≤ 7 * n
   pub machine : Machine
-  pub is : flat.flat_run new input turns ≡ running machine s.input s.output
+  pub is : flat.flat_run new input turns ≡ state_of machine s.input s.output
   pub next : InStep file plan new s.machine machine
 
 one_more : (file : List ℕ) (plan : Plan) (new input : List ℕ) (n : ℕ) (s : SymState) → Ground file plan new → IsNoFault (step file plan s).machine.ending
@@ -117,7 +118,7 @@ unfolding step flat.flat_run
 one_more file plan new input n s g safe h =
     let f : Follows file plan new (turn file plan s.input s.machine) h.machine s.input s.output =
     turn_follows file plan new s.machine h.machine s.input s.output g h.next safe in
-    let from : State = running (flat_machine.start new) input [] in
+    let from : State = state_of (flat_machine.start new) input [] in
     record {
       turns = f.turns + h.turns;
       least = omega (arith, f.some, h.least);

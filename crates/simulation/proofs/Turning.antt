@@ -1,15 +1,13 @@
 -- A turn of the symbol machine at each kind of place: at a chosen site, at a jump back, elsewhere.
-use Rattle.std.proofs.Common.{◌≡◌, ◌≢◌, ℕ, ◌+◌, ◌-◌, ◌*◌, ◌/◌, ◌%◌, ◌^◌, ◌<◌, ◌≤◌, List, Bool, true, false, cond, length, refl, ap, sym, ◌∙◌, subst, arith, get_or, append-nil}
-use Rattle.std.specs.Prelude.{Option, Some, None, is_some, IsSome, nat_eq, ◌&&◌, ◌||◌, slice_set, slice_get, option_and_then, bit_or}
+use Rattle.std.proofs.Common.{◌≡◌, ◌≢◌, ℕ, ◌+◌, ◌-◌, ◌*◌, ◌/◌, ◌%◌, ◌^◌, ◌<◌, ◌≤◌, List, Bool, true, false, cond, length, length-set, refl, ap, sym, ◌∙◌, subst, arith, get_or, append-nil}
+use Rattle.std.specs.Prelude.{Option, Some, None, is_some, IsSome, nat_eq, ◌&&◌, ◌||◌, slice_set, slice_get, slice_index, option_and_then, bit_and, bit_or}
 use Rattle.std.proofs.lemmas.Bool.Decides.{nat_tests}
-use Rattle.std.proofs.lemmas.Option.{slice_get_within, get_or_from_slice_get}
-use Rattle.rv_isa.specs.declared.Op.TheVariants.{Add, Sll, Or, Xor, And}
+use Rattle.std.proofs.lemmas.Option.{slice_get-get_or, slice_get_within, get_or_from_slice_get}
 use Rattle.rv_isa.specs.declared.Instr.{Instr}
 use Rattle.rv_isa.specs.declared.Instr.TheVariants.{Lui, Auipc, Jal, Jalr, Branch, Load, Store, OpImm, Reg, Fence, Ecall, Ebreak}
 use Rattle.rv_isa.specs.Encoded.{NamesRegisters, encoded}
-use Rattle.rv_isa.specs.Split.{split_of}
 use Rattle.rv_isa.specs.Table.{decoded}
-use Rattle.rv_isa.proofs.RoundTrip.{formed_decoded, registers_formed}
+use Rattle.rv_isa.proofs.RoundTrip.{decoded-encoded, formed_decoded, registers_formed}
 use Rattle.elf_spec.specs.Code.{code_word}
 use Rattle.plan_core.specs.declared.types.Plan.{Plan}
 use Rattle.plan_core.specs.declared.types.PlanLine.{PlanLine}
@@ -43,14 +41,16 @@ use Rattle.simulation.specs.Ground.{Ground, IsJalSite}
 use Rattle.simulation.proofs.InMemory.{InMemory}
 use Rattle.simulation.proofs.Backs.{BackLine, back_line, LineAt, line_some, index_is}
 use Rattle.simulation.proofs.Operations.{Holds, holds_unset, holds_ret}
-use Rattle.simulation.proofs.Registers.{changed_registers}
+use Rattle.simulation.proofs.Registers.{changed_registers, zero_unread}
 use Rattle.simulation.proofs.Stepping.{InStep}
 use Rattle.simulation.proofs.Jumping.{behind_code, jumps_alike, flat_back, back_alike, target_aligned}
 use Rattle.simulation.proofs.Calling.{TurnsAlike, quiet_alike, ends_alike, calls_alike}
 use Rattle.simulation.proofs.Acting.{IsPlainInstr, acts_alike, neither, unequal}
-use Rattle.simulation.proofs.Way.{running, turn_is, step_quiet, one_step, more_steps, change_zero, OnWay}
-use Rattle.simulation.proofs.Stub.{EndsAt, returns_way}
-use Rattle.simulation.proofs.StubCall.{CallsTo, call_way}
+use Rattle.site_stubs.specs.StubRuns.{CallsFrom, GoesBack, Reaches, RunsAt, StandAt, state_of}
+use Rattle.site_stubs.proofs.Steps.{step_quiet, turn_is}
+use Rattle.site_stubs.proofs.StubLaw.{calls as stub_calls, returns as stub_returns}
+use Rattle.simulation.proofs.Steps.{more_steps, one_step}
+use Rattle.simulation.proofs.StubJump.{jal_turn, jump_formed}
 use Rattle.simulation.proofs.Following.{Follows, follows_one, fetch_code, fetch_text, here_code, no_pair, plain_turn, plain_safe}
 
 stub_room : (file : List ℕ) (plan : Plan) (new : List ℕ) (k : ℕ) → Ground file plan new → k < length plan.sites
@@ -70,6 +70,22 @@ stub_word file plan new cells memory k i w line s g h there site small e =
     = stub_room file plan new k g (slice_get_within plan.sites k line there) in
     fetch_text file plan new cells memory (stub_at (text_at file) k + 4 * i) g h (omega (arith, room.0)) (omega (arith, room.1, small)) ∙ g.stub k i w line s there site e
 
+-- a word below 2^32 is itself as an address
+place_is : (at n : ℕ) → at + n < 2 ^ 32 → at + n ≡ plus at n
+place_is at n small = omega (arith, small)
+
+-- the stub of a site line stands in memory
+stub_stands : (file : List ℕ) (plan : Plan) (new : List ℕ) (cells : Cells) (memory : List Range) (k : ℕ) (line : PlanLine) (s : Site) → Ground file plan new
+    → InMemory file plan new cells memory → slice_get plan.sites k ≡ Some line → site_at file line.addr ≡ Some s
+    → StandAt memory (stub_at (text_at file) k) (stub_words (stub_at (text_at file) k) line.bit s.target s.back)
+stub_stands file plan new cells memory k line s g h there site i below =
+    let at : ℕ = stub_at (text_at file) k in
+    let room : (text_at file ≤ at) × (at + 44 ≤ text_at file + text_room) × (at + 44 < 2 ^ 31) × (at % 4 ≡ 0) = stub_room file plan new k g (slice_get_within plan.sites k line there) in
+    let small : i < 11 = below in
+    subst (λ a. fetched memory a ≡ Some (slice_index (stub_words at line.bit s.target s.back) i)) (place_is at (4 * i) (omega (arith, room.2, small)))
+    (stub_word file plan new cells memory k i (slice_index (stub_words at line.bit s.target s.back) i) line s g h there site small
+    (slice_get-get_or (stub_words at line.bit s.target s.back) i 0 below))
+
 -- the line of a plan has a bit below 32
 line_bit : (file : List ℕ) (plan : Plan) (new : List ℕ) (k : ℕ) (line : PlanLine) → Ground file plan new → slice_get plan.sites k ≡ Some line → line.bit < 32
 line_bit file plan new k line g there =
@@ -79,34 +95,27 @@ line_bit file plan new k line g there =
 -- a jump back to the return address of a chosen site
 chosen_back : (file : List ℕ) (plan : Plan) (new : List ℕ) (s : SymMachine) (m : Machine) (back k : ℕ) (input output : List ℕ) → Ground file plan new
     → InStep file plan new s m → s.ending ≡ Running → IsReturn back → back_index file plan.sites back ≡ Some k
-    → EndsAt m.memory m.registers (clear_bit (option_and_then (slice_get plan.sites) (back_index file plan.sites back)) s.bits) back input output 6
-    (running (record m { registers = slice_set m.registers 0 (behind m.pc); pc = back_of file plan back }) input output)
+    → Reaches 6 (record m { registers = slice_set m.registers 0 (behind m.pc); pc = back_of file plan back }) input output back
+    (clear_bit (option_and_then (slice_get plan.sites) (back_index file plan.sites back)) s.bits)
 unfolding back_of
 chosen_back file plan new s m back k input output g h run is e =
     let line : BackLine file plan.sites back k = back_line file plan.sites back k e in
     let at : ℕ = stub_at (text_at file) k in
     let room : (text_at file ≤ at) × (at + 44 ≤ text_at file + text_room) × (at + 44 < 2 ^ 31) × (at % 4 ≡ 0) = stub_room file plan new k g line.below in
-    let word : (i w : ℕ) → i < 11 → slice_get (stub_words at line.line.bit line.site.target line.site.back) i ≡ Some w → fetched m.memory (at + 4 * i) ≡ Some w =
-    λ i w small q. stub_word file plan new s.cells m.memory k i w line.line line.site g h.memory line.there line.at small q in
-    let bits_there : register m 4 ≡ s.bits = h.registers.bits_there in
     let from : Machine = record m { registers = slice_set m.registers 0 (behind m.pc); pc = at + 20 } in
-    let way : OnWay m.memory m.registers (register m 1) s.bits (at + 20) from = record {
-      memory_is = refl;
-      run = h.ending ∙ run;
-      at = refl;
-      changed = change_zero m.registers m.registers (register m 1) s.bits (behind m.pc)
-          (record { long = h.registers.long; first = refl; bits = bits_there; others = λ j z n x. refl });
+    let here : RunsAt from (plus at 20) at (stub_words at line.line.bit line.site.target line.site.back) = record {
+      ending = h.ending ∙ run;
+      pc = place_is at 20 (omega (arith, room.2));
+      registers = length-set m.registers 0 (behind m.pc) ∙ h.registers.long;
+      words = stub_stands file plan new s.cells m.memory k line.line line.site g h.memory line.there line.at;
     } in
     let to : line.site.back ≡ back = line.back in
+    let goes : GoesBack line.line.bit line.site.back from input output =
+    stub_returns at line.line.bit line.site.target line.site.back (line_bit file plan new k line.line g line.there) (rw to is.0) (rw to is.1) from input output here in
+    let bits : register from 4 ≡ s.bits = zero_unread m.registers (behind m.pc) 4 ∙ h.registers.bits_there in
     rw (e, line.there)
-    (returns_way m.memory m.registers (register m 1) s.bits at line.line.bit back input output from way (omega (arith, room.2))
-    (line_bit file plan new k line.line g line.there) is.0 is.1
-    (word 5 (encoded (OpImm Add 1 0 1)) (omega arith) refl)
-    (word 6 (encoded (OpImm Sll 1 1 line.line.bit)) (omega arith) refl)
-    (word 7 (encoded (OpImm Xor 1 1 (2 ^ 32 - 1))) (omega arith) refl)
-    (word 8 (encoded (Reg And 4 4 1)) (omega arith) refl)
-    (word 9 (encoded (Auipc 1 (split_of (minus back (plus at 36))).0)) (omega arith) (ap (λ b. Some (encoded (Auipc 1 (split_of (minus b (plus at 36))).0))) to))
-    (word 10 (encoded (Jalr 0 1 (split_of (minus back (plus at 36))).1)) (omega arith) (ap (λ b. Some (encoded (Jalr 0 1 (split_of (minus b (plus at 36))).1))) to)))
+    (subst (λ b. Reaches 6 from input output b (bit_and s.bits (2 ^ 32 - 1 - 2 ^ line.line.bit))) to
+    (subst (λ w. Reaches 6 from input output line.site.back (bit_and w (2 ^ 32 - 1 - 2 ^ line.line.bit))) bits goes.reaches))
 
 -- a jump back to a return address
 back_follows : (file : List ℕ) (plan : Plan) (new : List ℕ) (s : SymMachine) (m : Machine) (back : ℕ) (input output : List ℕ) → Ground file plan new
@@ -121,21 +130,21 @@ back_follows file plan new s m back input output g h run is turn = by_index (bac
         (back_alike file plan new s m back g h e)))
     by_index (Some k) e =
         let first : Machine = record m { registers = slice_set m.registers 0 (behind m.pc); pc = back_of file plan back } in
-        let one : steps 1 (running m input output) ≡ running first input output = one_step (running m input output) ∙ step_quiet input output m first turn in
+        let one : steps 1 (state_of m input output) ≡ state_of first input output = one_step (state_of m input output) ∙ step_quiet input output m first turn in
         let bits : ℕ = clear_bit (option_and_then (slice_get plan.sites) (back_index file plan.sites back)) s.bits in
-        let ends : EndsAt m.memory m.registers bits back input output 6 (running first input output) = chosen_back file plan new s m back k input output g h run is e in
+        let ends : Reaches 6 first input output back bits = chosen_back file plan new s m back k input output g h run is e in
         record {
           turns = 7;
           some = omega arith;
           few = omega arith;
-          machine = ends.machine;
-          is = more_steps 6 1 (running m input output) ∙ (ap (steps 6) one ∙ (ends.is ∙ ap (λ o. running ends.machine input o) (sym (append-nil output))));
+          machine = ends.next;
+          is = more_steps 6 1 (state_of m input output) ∙ (ap (steps 6) one ∙ (ends.run ∙ ap (λ o. state_of ends.next input o) (sym (append-nil output))));
           next = record {
-            pc = ends.way.at;
-            ending = ends.way.run ∙ sym run;
-            registers = changed_registers file plan s.registers m.registers ends.machine.registers s.bits ends.one bits Unset h.registers ends.way.changed
-                (holds_unset file plan ends.one);
-            memory = subst (λ x. InMemory file plan new s.cells x) (sym ends.way.memory_is) h.memory;
+            pc = ends.pc;
+            ending = ends.ending ∙ sym run;
+            registers = changed_registers file plan s.registers m.registers ends.next.registers s.bits (register ends.next 1) bits Unset h.registers ends.registers
+                refl ends.bits (λ j a b. ends.others j a b ∙ zero_unread m.registers (behind m.pc) j) (holds_unset file plan (register ends.next 1));
+            memory = subst (λ x. InMemory file plan new s.cells x) (sym ends.memory) h.memory;
           };
         }
 
@@ -219,9 +228,6 @@ unchosen file plan new s m w input output g h run code none safe = by_instr (dec
     by_instr (Some (Fence rest)) e safe = plain (Fence rest) e tt safe
     by_instr (Some Ebreak) e safe = plain Ebreak e tt safe
 
-word_zero : (memory : List Range) (at v : ℕ) → fetched memory (at + 4 * 0) ≡ Some v → fetched memory at ≡ Some v
-word_zero memory at v h = let e : at + 4 * 0 ≡ at = omega arith in rw e at h
-
 chosen_stub : (file : List ℕ) (plan : Plan) (a k : ℕ) → back_index file plan.sites a ≡ Some k → back_of file plan a ≡ stub_at (text_at file) k + 20
 unfolding back_of
 chosen_stub file plan a k e = rw e refl
@@ -248,8 +254,6 @@ chosen_call file plan new s m w line site input output g h run code at named fou
         let below : number < length plan.sites = slice_get_within plan.sites number line at.there in
         let room : (text_at file ≤ stub) × (stub + 44 ≤ text_at file + text_room) × (stub + 44 < 2 ^ 31) × (stub % 4 ≡ 0) = stub_room file plan new number g below in
         let here : site_at file line.addr ≡ Some site = ap (site_at file) at.addr ∙ found in
-        let word : (i v : ℕ) → i < 11 → slice_get (stub_words stub line.bit site.target site.back) i ≡ Some v → fetched m.memory (stub + 4 * i) ≡ Some v =
-        λ i v small q. stub_word file plan new s.cells m.memory number i v line site g h.memory at.there here small q in
         let target : site.target ≡ plus s.pc jal.imm = jal.target in
         let aligned : plus s.pc jal.imm % 4 ≡ 0 = target_aligned file plan new (plus s.pc jal.imm) g e in
         let low : s.pc + 4 ≤ text_at file = g.low_code s.pc w code in
@@ -259,22 +263,24 @@ chosen_call file plan new s m w line site input output g h run code at named fou
         let jump : fetched m.memory s.pc ≡ Some (encoded (Jal 0 (minus stub s.pc))) =
         fetch_code file plan new s.cells m.memory s.pc w g h.memory code
         ∙ subst (λ x. fetched (memory_of new) x ≡ Some (encoded (Jal 0 (minus stub x)))) at.addr (g.jump number line at.there) in
-        let way : OnWay m.memory m.registers (register m 1) s.bits s.pc m = record {
-          memory_is = refl;
-          run = h.ending ∙ run;
-          at = h.pc;
-          changed = record { long = h.registers.long; first = refl; bits = h.registers.bits_there; others = λ j z n x. refl };
+        let first : Machine = record m { registers = slice_set m.registers 0 (behind m.pc); pc = stub } in
+        let turn : flat.turn input m ≡ flat_calls.quiet input first =
+        turn_is input m (encoded (Jal 0 (minus stub s.pc))) (Some (Jal 0 (minus stub s.pc))) (h.ending ∙ run) (ap (fetched m.memory) h.pc ∙ jump)
+        (decoded-encoded (Jal 0 (minus stub s.pc)) (jump_formed s.pc stub (omega (arith, low, text)) (omega (arith, room.2)) (g.aligned s.pc w code) room.3 reach_here))
+        ∙ jal_turn input m s.pc stub h.pc (omega (arith, low, text)) (omega (arith, room.2)) room.3 in
+        let one : steps 1 (state_of m input output) ≡ state_of first input output = one_step (state_of m input output) ∙ step_quiet input output m first turn in
+        let ready : RunsAt first stub stub (stub_words stub line.bit site.target site.back) = record {
+          ending = h.ending ∙ run;
+          pc = refl;
+          registers = length-set m.registers 0 (behind m.pc) ∙ h.registers.long;
+          words = stub_stands file plan new s.cells m.memory number line site g h.memory at.there here;
         } in
-        let to : CallsTo m.memory m.registers (bit_or s.bits (2 ^ line.bit)) stub (plus s.pc jal.imm) input output (running m input output) =
-        call_way m.memory m.registers (register m 1) s.bits s.pc stub line.bit (plus s.pc jal.imm) input output m way (omega (arith, low, text)) room.2
-        (g.aligned s.pc w code) room.3 (line_bit file plan new number line g at.there) (omega arith) aligned reach_here jump
-        (word_zero m.memory stub (encoded (OpImm Add 1 0 1)) (word 0 (encoded (OpImm Add 1 0 1)) (omega arith) refl))
-        (word 1 (encoded (OpImm Sll 1 1 line.bit)) (omega arith) refl)
-        (word 2 (encoded (Reg Or 4 4 1)) (omega arith) refl)
-        (word 3 (encoded (Auipc 1 (split_of (minus (plus s.pc jal.imm) (plus stub 12))).0)) (omega arith)
-        (ap (λ t. Some (encoded (Auipc 1 (split_of (minus t (plus stub 12))).0))) target))
-        (word 4 (encoded (Jalr 1 1 (split_of (minus (plus s.pc jal.imm) (plus stub 12))).1)) (omega arith)
-        (ap (λ t. Some (encoded (Jalr 1 1 (split_of (minus t (plus stub 12))).1))) target)) in
+        let to : CallsFrom stub line.bit site.target first input output =
+        stub_calls stub line.bit site.target site.back (omega (arith, room.2)) (line_bit file plan new number line g at.there) (rw target (omega arith)) (rw target aligned)
+        first input output ready in
+        let bits : register to.reaches.next 4 ≡ bit_or s.bits (2 ^ line.bit) =
+        to.reaches.bits ∙ ap (λ x. bit_or x (2 ^ line.bit)) (zero_unread m.registers (behind m.pc) 4 ∙ h.registers.bits_there) in
+        let link : register to.reaches.next 1 ≡ stub + 20 = to.link ∙ sym (place_is stub 20 (omega (arith, room.2))) in
         let behind_here : behind s.pc ≡ s.pc + 4 = behind_code file plan new s.pc w g code in
         let back : back_of file plan (s.pc + 4) ≡ stub + 20 = chosen_stub file plan (s.pc + 4) number (index_is file plan new s.pc line site at g found) in
         let even : s.pc % 4 ≡ 0 = g.aligned s.pc w code in
@@ -283,14 +289,15 @@ chosen_call file plan new s m w line site input output g h run code at named fou
           turns = 6;
           some = omega arith;
           few = omega arith;
-          machine = to.machine;
-          is = to.is ∙ ap (λ o. running to.machine input o) (sym (append-nil output));
+          machine = to.reaches.next;
+          is = more_steps 5 1 (state_of m input output) ∙ (ap (steps 5) one ∙ (to.reaches.run ∙ ap (λ o. state_of to.reaches.next input o) (sym (append-nil output))));
           next = record {
-            pc = to.way.at;
-            ending = to.way.run ∙ sym run;
-            registers = changed_registers file plan s.registers m.registers to.machine.registers s.bits (stub + 20) (bit_or s.bits (2 ^ line.bit)) (Ret (s.pc + 4))
-                h.registers to.way.changed (holds_ret file plan (s.pc + 4) (stub + 20) is back);
-            memory = subst (λ x. InMemory file plan new s.cells x) (sym to.way.memory_is) h.memory;
+            pc = to.reaches.pc ∙ target;
+            ending = to.reaches.ending ∙ sym run;
+            registers = changed_registers file plan s.registers m.registers to.reaches.next.registers s.bits (stub + 20) (bit_or s.bits (2 ^ line.bit)) (Ret (s.pc + 4))
+                h.registers to.reaches.registers link bits (λ j a b. to.reaches.others j a b ∙ zero_unread m.registers (behind m.pc) j)
+                (holds_ret file plan (s.pc + 4) (stub + 20) is back);
+            memory = subst (λ x. InMemory file plan new s.cells x) (sym to.reaches.memory) h.memory;
           };
         })
 

@@ -6,6 +6,7 @@ ghost use Rattle.std.specs.Prelude.{◌≡◌, ◌<◌, ◌%◌, [], ◌∷◌};
 ghost use Rattle.rv_isa.specs.Encoded.{encoded, IsOperand};
 ghost use Rattle.rv_isa.specs.Split.{split_of};
 ghost use Rattle.site_spec.specs.Stubs.{stub_words};
+ghost use Rattle.site_stubs.specs.StubRuns.{Calls, Returns};
 
 use rv_isa::{Instr, Op, encode, split};
 
@@ -15,13 +16,15 @@ const TP: u8 = 4;
 
 /// The eleven words of the stub at the address `at` (RISC-V unprivileged manual): it sets bit `bit` of
 /// x4, calls the code at `target`, clears the bit and goes to `back`. Only ra and x4 are changed by
-/// its own words.
+/// its own words. Addresses are taken modulo 2^32.
 pub fn stub(bit: u8, target: u32, back: u32, at: u32) -> [u32; 11]
     requires bit { bit < 32 }
     requires target { target % 4 ≡ 0 }
     requires back { back % 4 ≡ 0 }
     requires at { at % 4 ≡ 0 }
-    ensures { result ≡ stub_words at bit target back }
+    ensures words { result ≡ stub_words at bit target back }
+    ensures calls { Calls at bit target result }
+    ensures returns { Returns at bit back result }
 {
     let one = immediate(Op::Add, 0, 1);
     let shifted = immediate(Op::Sll, RA, bit as u32);

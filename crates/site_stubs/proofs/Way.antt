@@ -1,47 +1,13 @@
 -- The flat machine on its way through straight-line code that names x1 and x4 alone.
-use Rattle.std.proofs.Common.{◌≡◌, ◌≢◌, ℕ, zero, suc, ◌+◌, ◌-◌, ◌%◌, ◌^◌, ◌<◌, List, length, refl, ap, ◌∙◌, arith, append-nil, length-set, get_or-set_same, get_or-set_other}
-use Rattle.std.specs.Prelude.{Option, Some, slice_set, slice_index}
-use Rattle.rv_isa.specs.declared.Instr.{Instr}
-use Rattle.rv_isa.specs.Table.{decoded}
+use Rattle.std.proofs.Common.{◌≡◌, ◌≢◌, ℕ, ◌+◌, ◌-◌, ◌%◌, ◌^◌, ◌<◌, List, length, ap, ◌∙◌, arith, length-set, get_or-set_same, get_or-set_other}
+use Rattle.std.specs.Prelude.{slice_set, slice_index}
 use Rattle.rv_isa.specs.Split.{split_of}
 use Rattle.rv_isa.specs.Encoded.{IsExtended}
 use Rattle.site_spec.specs.Places.{plus, minus}
 use Rattle.machine_spec.specs.declared.Ending.TheVariants.{Running}
 use Rattle.machine_spec.specs.Memory.{Range}
 use Rattle.machine_spec.specs.Start.{behind}
-use Rattle.flat_spec.specs.Stores.{fetched}
 use Rattle.flat_spec.specs.Machine.{Machine, gives}
-use Rattle.flat_spec.specs.Calls.{quiet}
-use Rattle.flat_spec.specs.Turns.{turn, executes}
-use Rattle.flat_spec.specs.Runs.{State, step, steps}
-
--- the state of a machine with its input and output
-abbrev pub running : Machine → List ℕ → List ℕ → State
-running m input output = record { machine = m; input = input; output = output }
-
--- a running machine's turn is that of the fetched word's instruction
-pub turn_is : (input : List ℕ) (m : Machine) (w : ℕ) (o : Option Instr) → m.ending ≡ Running → fetched m.memory m.pc ≡ Some w → decoded w ≡ o
-    → turn input m ≡ executes input o m
-unfolding turn
-turn_is input m w o run e d = rw (run, e, d) refl
-
-pub step_quiet : (input output : List ℕ) (m next : Machine) → turn input m ≡ quiet input next → step (running m input output) ≡ running next input output
-unfolding step
-step_quiet input output m next e = rw (e, append-nil output) refl
-
--- j more turns
-pub more_steps : (i j : ℕ) (s : State) → steps (i + j) s ≡ steps i (steps j s)
-unfolding steps
-more_steps zero j s = let e : 0 + j ≡ j = omega arith in rw e refl
-more_steps (suc i) j s = let e : suc i + j ≡ suc (i + j) = omega arith in rw e (ap step (more_steps i j s))
-
-pub one_step : (s : State) → steps 1 s ≡ step s
-unfolding steps
-one_step s = refl
-
-pub next_step : (n : ℕ) (s : State) → steps (suc n) s ≡ step (steps n s)
-unfolding steps
-next_step n s = refl
 
 -- registers that differ from others in x0, x1 and x4 alone, with what x1 and x4 hold
 pub record Changed (words now : List ℕ) (one four : ℕ) : Type 0 where
@@ -81,21 +47,21 @@ pub record OnWay (memory : List Range) (words : List ℕ) (one four pc : ℕ) (m
   pub at : m.pc ≡ pc
   pub changed : Changed words m.registers one four
 
-pub way_first : (memory : List Range) (words : List ℕ) (one four pc v : ℕ) (m : Machine) → OnWay memory words one four pc m → pc + 4 < 2 ^ 32
-    → OnWay memory words v four (pc + 4) (gives 1 v m)
-way_first memory words one four pc v m h small = record {
+pub way_first : (memory : List Range) (words : List ℕ) (one four pc v : ℕ) (m : Machine) → OnWay memory words one four pc m
+    → OnWay memory words v four (behind pc) (gives 1 v m)
+way_first memory words one four pc v m h = record {
   memory_is = h.memory_is;
   run = h.run;
-  at = let next : behind pc ≡ pc + 4 = omega (arith, small) in ap behind h.at ∙ next;
+  at = ap behind h.at;
   changed = change_first words m.registers one four v h.changed;
 }
 
-pub way_bits : (memory : List Range) (words : List ℕ) (one four pc v : ℕ) (m : Machine) → OnWay memory words one four pc m → pc + 4 < 2 ^ 32
-    → OnWay memory words one v (pc + 4) (gives 4 v m)
-way_bits memory words one four pc v m h small = record {
+pub way_bits : (memory : List Range) (words : List ℕ) (one four pc v : ℕ) (m : Machine) → OnWay memory words one four pc m
+    → OnWay memory words one v (behind pc) (gives 4 v m)
+way_bits memory words one four pc v m h = record {
   memory_is = h.memory_is;
   run = h.run;
-  at = let next : behind pc ≡ pc + 4 = omega (arith, small) in ap behind h.at ∙ next;
+  at = ap behind h.at;
   changed = change_bits words m.registers one four v h.changed;
 }
 

@@ -1,0 +1,4 @@
+pub mod Steps
+pub mod Way
+pub mod Turns
+pub mod StubLaw
