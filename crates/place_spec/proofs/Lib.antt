@@ -1,0 +1,12 @@
+pub mod Lists
+pub mod Blocks
+pub mod Fronts
+pub mod HoleLists
+pub mod Spots
+pub mod Refusals
+pub mod SoundParts
+pub mod Entering
+pub mod Fronting
+pub mod Leaving
+pub mod Sounds
+pub mod Ways
