@@ -1,0 +1,38 @@
+-- What the checks keep of an accepted file, for those who use it.
+use Rattle.std.specs.Prelude.{◌≡◌, ℕ, ◌+◌, ◌%◌, ◌≤◌, true, false, List, length, All, Any, Some, IsSome}
+use Rattle.elf_spec.specs.declared.HeapName.{HeapName}
+use Rattle.elf_spec.specs.Code.{code_place, code_word}
+use Rattle.elf_spec.specs.Fields.{is_set}
+use Rattle.elf_spec.specs.Heap.{heap_entry}
+use Rattle.elf_spec.specs.Memory.{image_end, is_loaded}
+use Rattle.elf_spec.specs.Records.{e_entry, e_phnum, segments_of}
+use Rattle.elf_read.specs.Checks.{is_shared}
+use Rattle.elf_read.specs.Elf.{IsReadable}
+use Rattle.elf_read.specs.Readable.{ReadableFacts}
+use Rattle.elf_read.specs.Refusals.{memory_size}
+use Rattle.exec_image.specs.Checks.{descriptions, has_mark, uses_tp_at}
+
+-- a word of the file is the code word at an address: a segment of code puts it there, and it has no
+-- byte that describes the file
+pub record IsCodeAt (file : List ℕ) (a place : ℕ) : Type 0 where
+  pub aligned : a % 4 ≡ 0
+  pub inside : place + 4 ≤ length file
+  pub loaded : Any (λ g. (is_loaded g ≡ true) × (is_set 1 g.flags ≡ true) × (g.vaddr ≤ a) × (a + 4 ≤ g.vaddr + g.file_size) × (place + g.vaddr ≡ g.offset + a)) (segments_of file)
+  pub plain : All (λ d. is_shared place 4 d.0 d.1 ≡ false) (descriptions file)
+
+-- a heap function has its two words in the code
+abbrev pub HasTwoWords : List ℕ → HeapName → Type 0
+HasTwoWords file name =
+    (a : ℕ) → heap_entry file name ≡ Some a → IsSome (code_word file a) × IsSome (code_word file (a + 4))
+
+pub record AcceptedFacts (file : List ℕ) : Type 0 where
+  pub readable : IsReadable file
+  pub facts : ReadableFacts file
+  pub code : (a place : ℕ) → code_place file a ≡ Some place → IsCodeAt file a place
+  pub entry : IsSome (code_word file (e_entry file))
+  pub heap : (name : HeapName) → HasTwoWords file name
+  pub unmarked : All (λ g. has_mark file g ≡ false) (segments_of file)
+  pub few : e_phnum file ≤ 64
+  pub memory : memory_size (segments_of file) ≤ 67108864
+  pub end : image_end (segments_of file) ≤ 0x70000000
+  pub no_tp : (a : ℕ) → uses_tp_at file a ≡ false

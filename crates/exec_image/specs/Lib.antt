@@ -1,0 +1,10 @@
+pub mod Parts
+pub mod Checks
+pub mod HeapChecks
+pub mod Refusals
+pub mod CodeParts
+pub mod Calls
+pub mod Images
+pub mod IsImage
+pub mod PlanFaults
+pub mod Accepted

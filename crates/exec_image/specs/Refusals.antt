@@ -1,0 +1,84 @@
+-- Why a file isn't accepted as an executable: the first check that it fails, with its item, and the
+-- lowest index or address.
+use Rattle.std.specs.Prelude.{◌≡◌, ℕ, ◌⊎◌, Bool, not, ◌&&◌, ◌||◌, List, [], ◌∷◌, ◌++◌, Option, Some, None, is_some, option_map, position, nat_lt, Result, Ok, Err}
+use Rattle.std.specs.List.{list_any}
+use Rattle.elf_spec.specs.declared.HeapName.{HeapName}
+use Rattle.elf_spec.specs.declared.Section.{Section}
+use Rattle.elf_spec.specs.Code.{code_word, is_executable}
+use Rattle.elf_spec.specs.Memory.{image_end}
+use Rattle.elf_spec.specs.Records.{e_entry, e_phnum, sections_of, segments_of}
+use Rattle.elf_read.specs.Refusals.{first_below, memory_size, refusal}
+use Rattle.reloc_table.specs.Refusals.{◌or_else◌, reloc_refusal, when}
+use Rattle.exec_image.specs.declared.refusals.FileRefusal.{FileRefusal}
+use Rattle.exec_image.specs.declared.refusals.FileRefusal.TheVariants.{Memory, Elf, Relocs, ExecNotWords, ExecOutside, EntryOut, HeapEntryTwice, HeapEntrySmall, AlreadyRewritten, ImageTooLarge, TpUsed}
+use Rattle.exec_image.specs.declared.refusals.ImagePart.TheVariants.{Headers, Bytes, End}
+use Rattle.exec_image.specs.Checks.{ends_above, has_mark, is_in_descriptions, is_not_words, is_place_of, uses_tp_at}
+use Rattle.exec_image.specs.HeapChecks.{heap_names, is_small, is_twice}
+
+-- an executable section has no whole words
+unfoldable pub exec_not_words : List Section → Option FileRefusal
+exec_not_words sections = option_map ExecNotWords (position (λ s. is_executable s && is_not_words s) sections)
+
+-- an executable section isn't in the file part of one segment of code, or has bytes that describe the
+-- file
+abbrev pub is_outside : List ℕ → Section → Bool
+is_outside file s =
+    is_executable s && (not (list_any (is_place_of s) (segments_of file)) || is_in_descriptions file s)
+
+unfoldable pub exec_outside : List ℕ → Option FileRefusal
+exec_outside file = option_map ExecOutside (position (is_outside file) (sections_of file))
+
+-- the program begins at no code word
+unfoldable pub entry_out : List ℕ → Option FileRefusal
+entry_out file = when (not (is_some (code_word file (e_entry file)))) (EntryOut (e_entry file))
+
+-- the first of the names, behind those before, whose function is there twice
+abbrev pub twice_from : List ℕ → List HeapName → List HeapName → Option FileRefusal
+twice_from file before [] = None
+twice_from file before (name ∷ names) =
+    when (is_twice file before name) (HeapEntryTwice name) or_else twice_from file (before ++ name ∷ []) names
+
+unfoldable pub heap_entry_twice : List ℕ → Option FileRefusal
+heap_entry_twice file = twice_from file [] heap_names
+
+-- the first of the names whose function is too small
+abbrev pub small_of : List ℕ → List HeapName → Option FileRefusal
+small_of file [] = None
+small_of file (name ∷ names) = when (is_small file name) (HeapEntrySmall name) or_else small_of file names
+
+unfoldable pub heap_entry_small : List ℕ → Option FileRefusal
+heap_entry_small file = small_of file heap_names
+
+unfoldable pub already_rewritten : List ℕ → Option FileRefusal
+already_rewritten file = when (list_any (has_mark file) (segments_of file)) AlreadyRewritten
+
+-- a new segment or its stubs would have no room
+unfoldable pub image_too_large : List ℕ → Option FileRefusal
+image_too_large file =
+    when (nat_lt 64 (e_phnum file)) (ImageTooLarge Headers)
+    or_else when (nat_lt 67108864 (memory_size (segments_of file))) (ImageTooLarge Bytes)
+    or_else when (list_any (ends_above 0x70000000) (segments_of file)) (ImageTooLarge End)
+
+-- the first code word that names x4, which will hold the sites' bits
+unfoldable pub tp_used : List ℕ → Option FileRefusal
+tp_used file = option_map TpUsed (first_below (uses_tp_at file) (image_end (segments_of file)))
+
+-- the checks of the entry, the heap functions, the segments and the code's registers, in their order
+abbrev pub rest_refusal : List ℕ → Option FileRefusal
+rest_refusal file =
+    entry_out file or_else heap_entry_twice file or_else heap_entry_small file or_else already_rewritten file
+    or_else image_too_large file or_else tp_used file
+
+-- the checks of the image, in their order
+abbrev pub image_refusal : List ℕ → Option FileRefusal
+image_refusal file = exec_not_words (sections_of file) or_else exec_outside file or_else rest_refusal file
+
+-- all checks, in their order: those of the headers and symbols, of the relocations, and of the image
+abbrev pub file_refusal : List ℕ → Option FileRefusal
+file_refusal file =
+    option_map Elf (refusal file) or_else option_map Relocs (reloc_refusal file) or_else image_refusal file
+
+-- a check that takes memory says no more than whether, and why, it refuses; memory may lack
+abbrev pub MaySay : Result (Unit {0}) FileRefusal → Option FileRefusal → Type 0
+MaySay (Ok x) o = o ≡ None
+MaySay (Err why) o = (o ≡ Some why) ⊎ (why ≡ Memory)

@@ -1,0 +1,89 @@
+// Accepts a file as an executable, or finds the first check that it fails.
+
+ghost use Rattle.std.specs.Prelude.{◌≡◌, ◌≢◌, ◌<◌, ◌^◌, Err, length};
+ghost use Rattle.reloc_table.specs.ReadFrom.{IsReadFrom};
+ghost use Rattle.reloc_table.specs.Refusals.{Says};
+ghost use Rattle.exec_image.specs.CodeParts.{IsCode, IsHeap};
+ghost use Rattle.exec_image.specs.Images.{GivesImage};
+ghost use Rattle.exec_image.specs.Refusals.{rest_refusal};
+
+use crate::code::read_code;
+use crate::heap::{HeapEntries, check_places, check_sizes, read_heap};
+use crate::image::{Image, image_of};
+use crate::layout::{check_entry, check_outside, check_words};
+use crate::parts::Part;
+use crate::refusals::FileRefusal;
+use crate::segments::{check_mark, check_room};
+use crate::tp::check_tp;
+use elf_read::{Elf, ElfRefusal, read_elf};
+use reloc_table::{RelocRefusal, read_relocs};
+use std::alloc::Global;
+
+/// What the refusal of the headers comes to.
+fn of_elf(why: ElfRefusal) -> FileRefusal
+    ensures memory { why ≡ ElfRefusal.Memory → result ≡ FileRefusal.Memory }
+    ensures other { why ≢ ElfRefusal.Memory → result ≡ FileRefusal.Elf why }
+{
+    match why {
+        ElfRefusal::Memory => FileRefusal::Memory,
+        _ => FileRefusal::Elf(why),
+    }
+}
+
+/// What the refusal of the relocations comes to.
+fn of_relocs(why: RelocRefusal) -> FileRefusal
+    ensures memory { why ≡ RelocRefusal.Memory → result ≡ FileRefusal.Memory }
+    ensures other { why ≢ RelocRefusal.Memory → result ≡ FileRefusal.Relocs why }
+{
+    match why {
+        RelocRefusal::Memory => FileRefusal::Memory,
+        _ => FileRefusal::Relocs(why),
+    }
+}
+
+/// The checks of the entry, the heap functions, the segments and the code's registers.
+#[tactic(auto, using(reloc_table::proofs::Sections::count_segments))]
+fn check_image(file: &[u8], elf: &Elf, code: &[Part], heap: &HeapEntries) -> Result<(), FileRefusal>
+    requires read { IsReadFrom elf.now file.now }
+    requires code { IsCode file.now elf.now.segments code.now }
+    requires heap { IsHeap file.now heap.now }
+    ensures { Says result (rest_refusal file.now) }
+{
+    let segments = elf.segments.as_slice();
+    let symbols = elf.symbols.as_slice();
+    check_entry(file, segments, code, elf.entry)?;
+    check_places(file, symbols, heap)?;
+    check_sizes(file, segments, code, symbols, heap)?;
+    check_mark(file, segments)?;
+    check_room(file, segments)?;
+    check_tp(file, segments, code)
+}
+
+/// Accepts a file of fewer than 2^32 bytes as an executable; or names the first check that it fails,
+/// in the order of the variants of `FileRefusal`, with the lowest index or address; or answers
+/// `Memory`. The time is linear in the file and its relocation entries, but for sorting.
+#[tactic(auto, using(reloc_table::proofs::Sections::few_sections))]
+pub fn accept(alloc: Global, file: &[u8]) -> Result<Image, FileRefusal>
+    requires { length file.now < 2 ^ 32 }
+    ensures { GivesImage result file.now }
+{
+    let elf = match read_elf(alloc, file) {
+        Ok(elf) => elf,
+        Err(why) => return Err(of_elf(why)),
+    };
+    let relocs = match read_relocs(alloc, &elf, file) {
+        Ok(relocs) => relocs,
+        Err(why) => return Err(of_relocs(why)),
+    };
+    check_words(elf.sections.as_slice())?;
+    check_outside(alloc, &elf, file)?;
+    let Ok(code) = read_code(alloc, elf.sections.as_slice()) else {
+        return Err(FileRefusal::Memory);
+    };
+    let heap = read_heap(file, elf.symbols.as_slice());
+    check_image(file, &elf, &code, &heap)?;
+    match image_of(alloc, file, elf, relocs.as_slice(), code, heap) {
+        Ok(image) => Ok(image),
+        Err(_) => Err(FileRefusal::Memory),
+    }
+}

@@ -1,0 +1,148 @@
+// An accepted executable.
+
+ghost use Rattle.std.specs.Prelude.{◌≡◌, ◌≤◌, true, slice_get, IfOk};
+ghost use Rattle.elf_spec.specs.Code.{code_word};
+ghost use Rattle.elf_spec.specs.Heap.{heap_entry};
+ghost use Rattle.elf_spec.specs.Records.{segments_of};
+ghost use Rattle.elf_spec.specs.Relocations.{relocs_of};
+ghost use Rattle.reloc_table.specs.ReadFrom.{IsReadFrom};
+ghost use Rattle.site_spec.specs.Places.{text_at};
+ghost use Rattle.exec_image.specs.Accepted.{AcceptedFacts};
+ghost use Rattle.exec_image.specs.CodeParts.{IsCode, IsHeap};
+ghost use Rattle.exec_image.specs.Images.{AreSites, IsAccepted, execs_of, file_part, is_loaded_one};
+
+use crate::calls::read_calls;
+use crate::code::code_word;
+use crate::execs::{Execs, read_execs};
+use crate::file_bytes::bytes_at;
+use crate::heap::{HeapEntries, entry_in};
+use crate::parts::Part;
+use crate::segments::text_place;
+use crate::sites::{Sites, read_sites};
+use elf_read::Elf;
+use elf_spec::{HeapName, Reloc};
+use std::alloc::{AllocError, Global};
+use std::marker::Model;
+
+/// An accepted executable with what was read of it; contracts see it as the file's bytes, which say
+/// all else.
+#[derive(Drop)]
+pub struct Image {
+    file: Vec<u8>,
+    elf: Elf,
+    execs: Execs,
+    code: Vec<Part>,
+    heap: HeapEntries,
+    sites: Sites,
+}
+
+impl Model for Image {
+    ghost use Rattle.std.specs.Prelude.{List, ℕ};
+
+    ghost Value = { List ℕ };
+
+    ghost use Rattle.exec_image.specs.IsImage.{IsImage};
+
+    ghost view = { λ a. a.file.items };
+
+    ghost invariant = { λ a. IsImage a };
+}
+
+/// The image of an accepted file, from what was read of it.
+#[tactic(auto, using(reloc_table::proofs::Sections::few_sections, crate::proofs::Passed::accepted_end), unfolding(crate::specs::Images::execs_of))]
+pub fn image_of(
+    alloc: Global,
+    file: &[u8],
+    elf: Elf,
+    relocs: &[Reloc],
+    code: Vec<Part>,
+    heap: HeapEntries,
+) -> Result<Image, AllocError>
+    requires accepted { IsAccepted file.now }
+    requires read { IsReadFrom elf file.now }
+    requires relocs { relocs.now ≡ relocs_of file.now }
+    requires code { IsCode file.now elf.segments code.items }
+    requires heap { IsHeap file.now heap }
+    ensures { IfOk result (λ image. image ≡ file.now) }
+{
+    let calls = read_calls(alloc, relocs)?;
+    let execs = read_execs(alloc, elf.sections.as_slice())?;
+    let segments = elf.segments.as_slice();
+    let text = text_place(file, segments);
+    let sites = read_sites(alloc, file, segments, &code, &calls, &heap, text)?;
+    let mut bytes = Vec::with_capacity(alloc, file.len())?;
+    bytes.extend_from_slice(file)?;
+    Ok(Image {
+        file: bytes,
+        elf,
+        execs,
+        code,
+        heap,
+        sites,
+    })
+}
+
+impl Image {
+    /// The sites of its calls, by address.
+    pub fn sites(&self) -> &Sites
+        ensures { AreSites self.now result.now }
+    {
+        &self.sites
+    }
+
+    /// The address of a heap function; `None` where the executable lacks it.
+    pub fn heap_entry(&self, name: HeapName) -> Option<u32>
+        ensures { result ≡ heap_entry self.now name }
+    {
+        entry_in(&self.file, &self.heap, name)
+    }
+
+    /// Where a new text would stand: the first multiple of 4096 that is past all segments and at least
+    /// 65536.
+    #[tactic(auto, using(crate::proofs::Passed::accepted_end))]
+    pub fn text_at(&self) -> u32
+        ensures exact { result ≡ text_at self.now }
+        ensures room { result ≤ 0x70001000 }
+    {
+        text_place(&self.file, self.elf.segments.as_slice())
+    }
+
+    /// The file's bytes.
+    pub fn file(&self) -> &[u8]
+        ensures { result.now ≡ self.now }
+    {
+        self.file.as_slice()
+    }
+
+    /// The headers and symbols.
+    pub fn elf(&self) -> &Elf
+        ensures read { IsReadFrom result.now self.now }
+        ensures accepted { IsAccepted self.now }
+        ensures facts { AcceptedFacts self.now }
+    {
+        &self.elf
+    }
+
+    /// The executable sections, in the file's order.
+    pub fn execs(&self) -> &Execs
+        ensures { result.now ≡ execs_of self.now }
+    {
+        &self.execs
+    }
+
+    /// The bytes that segment `i`, a PT_LOAD with memory, is loaded with.
+    pub fn bytes(&self, i: u32) -> &[u8]
+        requires { is_loaded_one (slice_get (segments_of self.now) i) ≡ true }
+        ensures { result.now ≡ file_part self.now (slice_get (segments_of self.now) i) }
+    {
+        let g = &self.elf.segments.as_slice()[i as usize];
+        bytes_at(&self.file, g.offset, g.file_size)
+    }
+
+    /// The code word at an address; `None` where the address is no code word.
+    pub fn code_word(&self, addr: u32) -> Option<u32>
+        ensures { result ≡ code_word self.now addr }
+    {
+        code_word(&self.file, self.elf.segments.as_slice(), &self.code, addr)
+    }
+}

@@ -1,0 +1,78 @@
+// The check that no code word names x4.
+
+ghost use Rattle.std.specs.Prelude.{◌≡◌, ℕ, ◌<◌, ◌≤◌, false, true, IfNone, IfSome};
+ghost use Rattle.reloc_table.specs.Refusals.{Says};
+ghost use Rattle.exec_image.specs.Checks.{is_tp_word, uses_tp_at};
+ghost use Rattle.exec_image.specs.CodeParts.{IsCode};
+ghost use Rattle.exec_image.specs.Refusals.{tp_used};
+
+use crate::code::code_word;
+use crate::parts::Part;
+use crate::refusals::FileRefusal;
+use elf_spec::Segment;
+use rv_isa::{decode, names};
+
+/// The register that is to hold the sites' bits.
+const TP: u8 = 4;
+
+fn is_tp_word(word: Option<u32>) -> bool
+    ensures { result ≡ is_tp_word word }
+{
+    match word {
+        Some(word) => match decode(word) {
+            Some(instruction) => names(&instruction, TP),
+            None => false,
+        },
+        None => false,
+    }
+}
+
+/// The first code word that names x4, from one address to before another.
+fn first_tp(file: &[u8], segments: &[Segment], code: &[Part], from: u64, to: u64) -> Option<u32>
+    requires code { IsCode file.now segments.now code.now }
+    requires to { to ≤ 0x7ff00000 }
+    ensures found { IfSome result (λ a. uses_tp_at file.now a ≡ true) }
+    ensures first { IfSome result (λ a. (b : ℕ) → from ≤ b → b < a → uses_tp_at file.now b ≡ false) }
+    ensures none { IfNone result ((b : ℕ) → from ≤ b → b < to → uses_tp_at file.now b ≡ false) }
+{
+    if from >= to {
+        return None;
+    }
+    let mut at = from.div_ceil(4) * 4;
+    while at < to {
+        if is_tp_word(code_word(file, segments, code, at as u32)) {
+            return Some(at as u32);
+        }
+        at += 4;
+    }
+    None
+}
+
+/// The first code word that names x4.
+fn find_tp(file: &[u8], segments: &[Segment], code: &[Part]) -> Option<u32>
+    requires { IsCode file.now segments.now code.now }
+    ensures found { IfSome result (λ a. uses_tp_at file.now a ≡ true) }
+    ensures first { IfSome result (λ a. (b : ℕ) → b < a → uses_tp_at file.now b ≡ false) }
+    ensures none { IfNone result ((b : ℕ) → uses_tp_at file.now b ≡ false) }
+{
+    let mut at = 0;
+    for p in code {
+        if let Some(a) = first_tp(file, segments, code, at.max(p.start), p.end) {
+            return Some(a);
+        }
+        at = at.max(p.end);
+    }
+    None
+}
+
+/// Checks that no code word names x4.
+#[tactic(auto, unfolding(crate::specs::Refusals::tp_used))]
+pub fn check_tp(file: &[u8], segments: &[Segment], code: &[Part]) -> Result<(), FileRefusal>
+    requires { IsCode file.now segments.now code.now }
+    ensures { Says result (tp_used file.now) }
+{
+    match find_tp(file, segments, code) {
+        Some(a) => Err(FileRefusal::TpUsed(a)),
+        None => Ok(()),
+    }
+}
