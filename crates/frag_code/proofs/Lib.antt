@@ -1,0 +1,12 @@
+pub mod Steps
+pub mod OnWay
+pub mod Stores
+pub mod Moves
+pub mod Acts
+pub mod Keeping
+pub mod Chains
+pub mod Countdowns
+pub mod Rules
+pub mod Loops
+pub mod Frames
+pub mod Composing
