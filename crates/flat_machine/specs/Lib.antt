@@ -1,0 +1,8 @@
+-- What contracts of the flat machine cite.
+pub mod Asks
+pub mod Seen
+pub mod Steps
+pub mod Paused
+pub mod Output
+pub mod Runs
+pub mod Serving
