@@ -1,4 +1,5 @@
 -- Lemmas on the grammar, on what commands come to, and on the answers of the whole call.
 pub mod Grammar
-pub mod Outcomes
+pub mod Due
 pub mod Rows
+pub mod RunEnds

@@ -1,51 +1,39 @@
 -- What the answer of the whole call means: the table of statuses.
-use Rattle.std.specs.Prelude.{◌≡◌, ◌≢◌, ℕ, ◌≤◌, ◌⊎◌, List, Some}
-use Rattle.halo_outside.specs.Seen.{Contents, Rose, Appends, AppendsPrefix}
+use Rattle.std.specs.Prelude.{◌≡◌, ℕ, ◌≤◌, ◌⊎◌, List, Some}
+use Rattle.halo_outside.specs.Seen.{Contents, Rose, Appends}
 use Rattle.halo_cli.specs.declared.endings.Ending.{Ending}
-use Rattle.halo_cli.specs.declared.endings.Ending.TheVariants.{Done, Usage, File, Plan}
+use Rattle.halo_cli.specs.declared.endings.Ending.TheVariants.{Usage, File, Plan, ReadFault, Exited, StillRunning, Fault, Illegal}
 use Rattle.halo_cli.specs.declared.endings.FileRefusal.{FileRefusal}
 use Rattle.halo_cli.specs.declared.endings.PlanRefusal.{PlanRefusal}
+use Rattle.machine_spec.specs.declared.FaultKind.{FaultKind}
 use Rattle.halo_cli.specs.Words.{Asked, AsksFor, IsLine, IsFirstWrong}
+use Rattle.halo_cli.specs.Words.Asked.{Rewrite, Run}
 use Rattle.halo_cli.specs.Endings.{status_of, line_of}
-use Rattle.halo_cli.specs.Outcomes.{Outcome}
-use Rattle.halo_cli.specs.Outcomes.Outcome.{Lacking, Refused, Fits}
-use Rattle.halo_cli.specs.Commands.{CommandComes, Brings, CommandWrites}
-use Rattle.halo_cli.specs.World.{World, Keeps}
-use Rattle.halo_cli.specs.Ends.{LineEnds}
+use Rattle.halo_cli.specs.Rewrite.{RewriteWrites}
+use Rattle.halo_cli.specs.Run.{Ran, IsUnmoved}
+use Rattle.halo_cli.specs.Commands.{CommandComes, Brings, ReadFails}
+use Rattle.halo_cli.specs.World.{World, OnlyMoves, OnlyWrites}
+use Rattle.halo_cli.specs.Ends.{LineEnds, IsNoted}
 
--- the files tell contents, and these bring the line to this outcome
-abbrev pub ToldBring : List (List ℕ) → World → Outcome → Type 0
-ToldBring words before outcome = (contents : Contents) × (before.files.told ≡ Some contents)
-    × ((asked : Asked) × AsksFor words asked × CommandComes asked contents outcome)
+-- the files tell contents, and these, with a told input where a program runs, bring the line to this ending
+abbrev pub ToldBring : List (List ℕ) → World → Ending → Type 0
+ToldBring words before ending = (contents : Contents) × (before.outside.files.told ≡ Some contents)
+    × ((asked : Asked) × AsksFor words asked × CommandComes asked contents before.outside.input.told ending)
 
--- told contents, or else the bytes that were read, bring the line to this outcome
-abbrev pub FilesBring : List (List ℕ) → World → World → Outcome → Type 0
-FilesBring words before now outcome =
-    (asked : Asked) × AsksFor words asked × Brings asked before.files now.files outcome
-
--- what the line writes
-abbrev pub LineWrites : List (List ℕ) → World → World → List ℕ → Type 0
-LineWrites words before now new =
-    (asked : Asked) × AsksFor words asked × CommandWrites asked before.files now.files new
+-- what was read brings the line to this ending
+abbrev pub LineBrings : List (List ℕ) → World → World → Ending → Type 0
+LineBrings words before now ending = (asked : Asked) × AsksFor words asked × Brings asked before.outside now.outside ending
 
 -- the line of this ending was appended to note
 abbrev pub NotesLine : World → World → Ending → Type 0
 NotesLine before now ending = Appends before.note.told now.note.told (line_of ending)
 
--- note has the line of how the words ended, or failed after some first bytes of it
-abbrev pub NotesEnding : List (List ℕ) → World → World → ℕ → Type 0
-NotesEnding words before now status = (ending : Ending) × (ending ≢ Done)
-    × LineEnds words before.files now.files before.out now.out ending
-    × (((status_of ending ≡ status) × NotesLine before now ending)
-    ⊎ ((status ≡ 68) × Rose before.note.faults now.note.faults
-    × AppendsPrefix before.note.told now.note.told (line_of ending)))
-
--- a read, a write to out, a write to note failed in the call
-abbrev pub FilesFailed : World → World → Type 0
-FilesFailed before now = Rose before.files.faults now.files.faults
+-- a read of the line's command, a write to out, a write to note failed in the call
+abbrev pub ReadFailed : List (List ℕ) → World → World → Type 0
+ReadFailed words before now = (asked : Asked) × AsksFor words asked × ReadFails asked before.outside now.outside
 
 abbrev pub OutFailed : World → World → Type 0
-OutFailed before now = Rose before.out.faults now.out.faults
+OutFailed before now = Rose before.outside.out.faults now.outside.out.faults
 
 abbrev pub NoteFailed : World → World → Type 0
 NoteFailed before now = Rose before.note.faults now.note.faults
@@ -55,9 +43,22 @@ abbrev pub Gives : ℕ → World → World → ℕ → Type 0
 Gives want before now status = (status ≡ want) ⊎ (status ≡ 69) ⊎ ((status ≡ 68) × NoteFailed before now)
 
 -- the answer is this status, unless a read failed, memory was wanting or note failed
-abbrev pub GivesIfRead : ℕ → World → World → ℕ → Type 0
-GivesIfRead want before now status =
-    ((status ≡ 67) × FilesFailed before now) ⊎ Gives want before now status
+abbrev pub GivesIfRead : List (List ℕ) → ℕ → World → World → ℕ → Type 0
+GivesIfRead words want before now status = ((status ≡ 67) × ReadFailed words before now) ⊎ Gives want before now status
+
+-- the answer is this status, unless a read or a write failed or memory was wanting
+abbrev pub GivesIfRun : List (List ℕ) → ℕ → World → World → ℕ → Type 0
+GivesIfRun words want before now status = ((status ≡ 68) × OutFailed before now) ⊎ GivesIfRead words want before now status
+
+-- what stands after a command that is done: of `rewrite`, the new file is on out, and all else is as before;
+-- of `run`, all that the program wrote up to its exit, and on note how it ended
+abbrev pub IsDone : Asked → World → World → Type 0
+IsDone (Rewrite plan file) before now = (now.note ≡ before.note) × (now.outside.input ≡ before.outside.input)
+    × ((new : List ℕ) × RewriteWrites plan file before.outside.files now.outside.files new
+    × Appends before.outside.out.told now.outside.out.told new)
+IsDone (Run bound file) before now = (exit : ℕ) × (steps : ℕ)
+    × Ran bound file before.outside now.outside (Exited exit steps) steps
+    × NotesLine before now (Exited exit steps)
 
 -- the table of statuses, for a line of words
 pub record Answers (words : List (List ℕ)) (before now : World) (status : ℕ) : Type 0 where
@@ -65,39 +66,42 @@ pub record Answers (words : List (List ℕ)) (before now : World) (status : ℕ)
   pub usage_only : status ≡ 64 → (IsLine words → ⊥)
       × ((place : ℕ) × IsFirstWrong words place × NotesLine before now (Usage place))
   pub usage_always : (IsLine words → ⊥) → Gives 64 before now status
-  -- where they are no line, nothing is read
-  pub unread : (IsLine words → ⊥) → now.files ≡ before.files
-  -- 65 exactly where the files bring the line to a refusal of the file
-  pub file_only : status ≡ 65 → (why : FileRefusal)
-      × FilesBring words before now (Refused (File why)) × NotesLine before now (File why)
-  pub file_always : (why : FileRefusal) → ToldBring words before (Refused (File why))
-      → GivesIfRead 65 before now status
-  -- 66 exactly where the files bring the line to a refusal of the plan
-  pub plan_only : status ≡ 66 → (why : PlanRefusal)
-      × FilesBring words before now (Refused (Plan why)) × NotesLine before now (Plan why)
-  pub plan_always : (why : PlanRefusal) → ToldBring words before (Refused (Plan why))
-      → GivesIfRead 66 before now status
+  -- where they are no line, nothing is read or written but note
+  pub untouched : (IsLine words → ⊥) → now.outside ≡ before.outside
+  -- 65 exactly where what is read brings the line to a refusal of the file
+  pub file_only : status ≡ 65 → (why : FileRefusal) × LineBrings words before now (File why) × NotesLine before now (File why)
+  pub file_always : (why : FileRefusal) → ToldBring words before (File why) → GivesIfRead words 65 before now status
+  -- 66 exactly where it brings the line to a refusal of the plan
+  pub plan_only : status ≡ 66 → (why : PlanRefusal) × LineBrings words before now (Plan why) × NotesLine before now (Plan why)
+  pub plan_always : (why : PlanRefusal) → ToldBring words before (Plan why) → GivesIfRead words 66 before now status
   -- 67 only where a read failed or told files lack one that is due to be read; and always in the second case
-  pub read_only : status ≡ 67 → FilesFailed before now ⊎ ToldBring words before Lacking
-  pub read_always : ToldBring words before Lacking → Gives 67 before now status
+  pub read_only : status ≡ 67 → ReadFailed words before now ⊎ ToldBring words before ReadFault
+  pub read_always : ToldBring words before ReadFault → Gives 67 before now status
   -- 68 only where a write failed
   pub write_only : status ≡ 68 → OutFailed before now ⊎ NoteFailed before now
-  -- at 0 the command is done: out was appended what the line writes
-  pub done : status ≡ 0 → (new : List ℕ)
-      × LineWrites words before now new × Appends before.out.told now.out.told new
-  -- where told contents let the command be done and nothing failed, it is done, unless memory was wanting
-  pub complete : ToldBring words before Fits
-      → (FilesFailed before now → ⊥) → (OutFailed before now → ⊥) → (NoteFailed before now → ⊥)
+  -- 70 exactly where a program still runs after its steps
+  pub running_only : status ≡ 70 → (steps : ℕ) × LineBrings words before now (StillRunning steps) × NotesLine before now (StillRunning steps)
+  pub running_always : (steps : ℕ) → ToldBring words before (StillRunning steps) → GivesIfRun words 70 before now status
+  -- 71 exactly where it meets an address fault within them
+  pub fault_only : status ≡ 71 → (kind : FaultKind) × (at : ℕ) × (steps : ℕ)
+      × LineBrings words before now (Fault kind at steps) × NotesLine before now (Fault kind at steps)
+  pub fault_always : (kind : FaultKind) (at steps : ℕ) → ToldBring words before (Fault kind at steps) → GivesIfRun words 71 before now status
+  -- 72 exactly where it comes to a word that is no instruction to be run
+  pub illegal_only : status ≡ 72 → (at : ℕ) × (steps : ℕ)
+      × LineBrings words before now (Illegal at steps) × NotesLine before now (Illegal at steps)
+  pub illegal_always : (at steps : ℕ) → ToldBring words before (Illegal at steps) → GivesIfRun words 72 before now status
+  -- at 0 the command is done
+  pub done : status ≡ 0 → (asked : Asked) × AsksFor words asked × IsDone asked before now
+  -- where what is told lets the command be done and nothing failed, it is done, unless memory was wanting
+  pub complete : (ending : Ending) → status_of ending ≡ 0 → ToldBring words before ending
+      → (ReadFailed words before now → ⊥) → (OutFailed before now → ⊥) → (NoteFailed before now → ⊥)
       → (status ≡ 0) ⊎ (status ≡ 69)
-  -- out is as before at each status from 64 on but 68; there it has at most some first bytes of what the line writes
-  pub silent : 64 ≤ status → (status ≡ 68 → ⊥) → now.out ≡ before.out
-  pub partial : status ≡ 68 → (now.out ≡ before.out)
-      ⊎ (OutFailed before now × ((new : List ℕ)
-      × LineWrites words before now new × AppendsPrefix before.out.told now.out.told new))
-  -- note is as before at 0; from 64 on it has the line of the ending, or failed after some first bytes of it
-  pub quiet : status ≡ 0 → now.note ≡ before.note
-  pub noted : 64 ≤ status → NotesEnding words before now status
-  -- the input, told contents and counts
-  pub kept : Keeps before now
+  -- at 65, 66 and 69 input and out are as before
+  pub silent : (status ≡ 65) ⊎ (status ≡ 66) ⊎ (status ≡ 69) → IsUnmoved before.outside now.outside
+  -- the line ended in one way, which says what input and out are; note has its line, or failed after a part of it
+  pub ended : (ending : Ending) × LineEnds words before.outside now.outside ending × IsNoted ending before.note now.note status
+  -- told contents stay, what tells still tells, and no count falls
+  pub moves : OnlyMoves before.outside now.outside
+  pub writes : OnlyWrites before.note now.note
   -- there are no other statuses
-  pub statuses : (status ≡ 0) ⊎ ((64 ≤ status) × (status ≤ 69))
+  pub statuses : (status ≡ 0) ⊎ ((64 ≤ status) × (status ≤ 72))

@@ -1,24 +1,36 @@
--- Each command: to what the files bring it, and what it writes.
-use Rattle.std.specs.Prelude.{ℕ, List, MatchOption}
-use Rattle.halo_outside.specs.Seen.{Contents, FilesSeen}
+-- Each command: to which ending it comes, and what it does to input and out.
+use Rattle.std.specs.Prelude.{ℕ, ◌⊎◌, List, Option}
+use Rattle.halo_outside.specs.Seen.{Contents, Rose}
+use Rattle.halo_cli.specs.declared.endings.Ending.{Ending}
+use Rattle.halo_cli.specs.declared.endings.Ending.TheVariants.{Done}
 use Rattle.halo_cli.specs.Words.{Asked}
-use Rattle.halo_cli.specs.Words.Asked.{Rewrite}
-use Rattle.halo_cli.specs.Outcomes.{Outcome}
-use Rattle.halo_cli.specs.Rewrite.{RewriteComes, RewriteReads, RewriteWrites}
+use Rattle.halo_cli.specs.Words.Asked.{Rewrite, Run}
+use Rattle.halo_cli.specs.World.{Outside}
+use Rattle.halo_cli.specs.Rewrite.{RewriteComes, RewriteBrings, RewriteLeaves}
+use Rattle.halo_cli.specs.Run.{RunComes, RunBrings, IsLoaded, RunLeaves}
 
--- to what told contents bring a command
-abbrev pub CommandComes : Asked → Contents → Outcome → Type 0
-CommandComes (Rewrite plan file) contents outcome = RewriteComes plan file contents outcome
+-- to which ending told contents, and a told input where it runs a program, bring a command
+abbrev pub CommandComes : Asked → Contents → Option (List ℕ) → Ending → Type 0
+CommandComes (Rewrite plan file) contents input ending = RewriteComes plan file contents ending
+CommandComes (Run steps file) contents input ending = RunComes steps file contents input ending
 
--- to what the bytes that were read bring a command, where no contents are told
-abbrev pub CommandReads : Asked → FilesSeen → FilesSeen → Outcome → Type 0
-CommandReads (Rewrite plan file) before now outcome = RewriteReads plan file before now outcome
+-- to which ending what it read brings a command
+abbrev pub Brings : Asked → Outside → Outside → Ending → Type 0
+Brings (Rewrite plan file) before now ending = RewriteBrings plan file before.files now.files ending
+Brings (Run steps file) before now ending = RunBrings steps file before now ending
 
--- to what the files bring a command
-abbrev pub Brings : Asked → FilesSeen → FilesSeen → Outcome → Type 0
-Brings asked before now outcome =
-    MatchOption before.told (CommandReads asked before now outcome) (λ contents. CommandComes asked contents outcome)
+-- what a command that ends so does to input and out
+abbrev pub Leaves : Asked → Outside → Outside → Ending → Type 0
+Leaves (Rewrite plan file) before now ending = RewriteLeaves plan file before now ending
+Leaves (Run steps file) before now ending = RunLeaves steps file before now ending
 
--- what a command writes
-abbrev pub CommandWrites : Asked → FilesSeen → FilesSeen → List ℕ → Type 0
-CommandWrites (Rewrite plan file) before now new = RewriteWrites plan file before now new
+-- what was read lets a command write to out
+abbrev pub IsStarted : Asked → Outside → Outside → Type 0
+IsStarted (Rewrite plan file) before now = RewriteBrings plan file before.files now.files Done
+IsStarted (Run steps file) before now = IsLoaded file before.files now.files
+
+-- a read of a command failed: of a file, or of the input of a program that runs
+abbrev pub ReadFails : Asked → Outside → Outside → Type 0
+ReadFails (Rewrite plan file) before now = Rose before.files.faults now.files.faults
+ReadFails (Run steps file) before now =
+    Rose before.files.faults now.files.faults ⊎ (Rose before.input.faults now.input.faults × IsLoaded file before.files now.files)

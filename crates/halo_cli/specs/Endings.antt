@@ -1,17 +1,23 @@
 -- The status of an ending, and its line on note.
-use Rattle.std.specs.Prelude.{ℕ, ◌+◌, ◌/◌, ◌%◌, ◌^◌, nat_lt, if◌then◌else◌, List, [], ◌∷◌, ◌++◌, codes, decimal}
+use Rattle.std.specs.Prelude.{ℕ, List, [], ◌++◌, codes, decimal}
 use Rattle.halo_cli.specs.declared.endings.Ending.{Ending}
-use Rattle.halo_cli.specs.declared.endings.Ending.TheVariants.{Done, Usage, File, Plan, ReadFault, WriteFault, Memory, StillRunning, Fault, Illegal}
+use Rattle.halo_cli.specs.declared.endings.Ending.TheVariants.{Done, Usage, File, Plan, ReadFault, WriteFault, Memory, Exited, StillRunning, Fault, Illegal}
 use Rattle.halo_cli.specs.declared.endings.FileRefusal.{FileRefusal}
 use Rattle.halo_cli.specs.declared.endings.FileRefusal.TheVariants as file_refusal
 use Rattle.halo_cli.specs.declared.endings.PlanRefusal.{PlanRefusal}
 use Rattle.halo_cli.specs.declared.endings.PlanRefusal.TheVariants as plan_refusal
-use Rattle.halo_cli.specs.declared.endings.FaultKind.{FaultKind}
-use Rattle.halo_cli.specs.declared.endings.FaultKind.TheVariants.{F1, F2, F3, F4, F5, F6}
+use Rattle.machine_spec.specs.declared.FaultKind.{FaultKind}
+use Rattle.machine_spec.specs.declared.FaultKind.TheVariants.{F1, F2, F3, F4, F5, F6}
+use Rattle.elf_read.specs.declared.refusals.ElfRefusal.{ElfRefusal}
+use Rattle.elf_read.specs.declared.refusals.ElfRefusal.TheVariants.{NotElf, WrongClass, WrongOrder, WrongVersion, NotExec, NotRiscv, Flags, TableOut, TooMany, SegmentKind, SegmentOut, SegmentOverlap, TooLarge, SectionOut, NameOut, Memory as NoMemory}
+use Rattle.elf_read.specs.declared.refusals.Table.{Table}
+use Rattle.elf_read.specs.declared.refusals.Table.TheVariants.{Program, Section as Sections}
+use Rattle.text_fields.specs.Writing.{hex8}
 
 -- the status with which the program ends
 abbrev pub status_of : Ending → ℕ
 status_of Done = 0
+status_of (Exited status steps) = 0
 status_of (Usage place) = 64
 status_of (File why) = 65
 status_of (Plan why) = 66
@@ -22,21 +28,33 @@ status_of (StillRunning steps) = 70
 status_of (Fault kind at steps) = 71
 status_of (Illegal at steps) = 72
 
--- a digit from 0 to 15, in lower case
-abbrev pub hex_digit : ℕ → ℕ
-hex_digit digit = if nat_lt digit 10 then 48 + digit else 87 + digit
+-- the refusals of files that aren't ELF executables for this machine
+abbrev pub table_text : Table → List ℕ
+table_text Program = codes "program headers out"
+table_text Sections = codes "section headers out"
 
--- the two digits of a byte
-abbrev pub hex_byte : ℕ → List ℕ
-hex_byte byte = hex_digit (byte / 16) ∷ hex_digit (byte % 16) ∷ []
-
--- the eight digits of an address
-abbrev pub address_text : ℕ → List ℕ
-address_text at =
-    hex_byte (at / 2 ^ 24) ++ hex_byte (at / 2 ^ 16 % 256) ++ hex_byte (at / 2 ^ 8 % 256) ++ hex_byte (at % 256)
+abbrev pub elf_text : ElfRefusal → List ℕ
+elf_text NotElf = codes "not elf"
+elf_text (WrongClass n) = codes "class " ++ decimal n
+elf_text (WrongOrder n) = codes "byte order " ++ decimal n
+elf_text WrongVersion = codes "version"
+elf_text (NotExec n) = codes "type " ++ decimal n
+elf_text (NotRiscv n) = codes "machine " ++ decimal n
+elf_text (Flags flags) = codes "flags " ++ hex8 flags
+elf_text (TableOut table) = table_text table
+elf_text (TooMany n) = codes "program headers " ++ decimal n
+elf_text (SegmentKind i kind) = codes "segment " ++ decimal i ++ codes " kind " ++ hex8 kind
+elf_text (SegmentOut i) = codes "segment " ++ decimal i ++ codes " out"
+elf_text (SegmentOverlap i) = codes "segment " ++ decimal i ++ codes " overlaps"
+elf_text (TooLarge n) = decimal n ++ codes " bytes"
+elf_text (SectionOut i) = codes "section " ++ decimal i ++ codes " out"
+elf_text (NameOut i) = codes "symbol " ++ decimal i ++ codes " name out"
+elf_text NoMemory = codes "out of memory"
 
 abbrev pub file_text : FileRefusal → List ℕ
 file_text file_refusal.NotFirstForm = codes "not this form"
+file_text file_refusal.TooLong = codes "too long"
+file_text (file_refusal.Elf why) = elf_text why
 
 abbrev pub plan_text : PlanRefusal → List ℕ
 plan_text plan_refusal.NotFirstForm = codes "not this form"
@@ -49,9 +67,10 @@ kind_text F4 = codes "F4"
 kind_text F5 = codes "F5"
 kind_text F6 = codes "F6"
 
--- the line that says on note how the command ended; nothing where it is done
+-- the line that says on note how the command ended; nothing where `rewrite` is done
 abbrev pub line_of : Ending → List ℕ
 line_of Done = []
+line_of (Exited status steps) = codes "exit " ++ decimal status ++ codes " after " ++ decimal steps ++ codes " steps\n"
 line_of (Usage place) = codes "halo: usage: word " ++ decimal place ++ codes "\n"
 line_of (File why) = codes "halo: file: " ++ file_text why ++ codes "\n"
 line_of (Plan why) = codes "halo: plan: " ++ plan_text why ++ codes "\n"
@@ -60,6 +79,6 @@ line_of WriteFault = codes "halo: write failed\n"
 line_of Memory = codes "halo: out of memory\n"
 line_of (StillRunning steps) = codes "halo: still running after " ++ decimal steps ++ codes " steps\n"
 line_of (Fault kind at steps) = codes "halo: fault " ++ kind_text kind
-    ++ codes " at " ++ address_text at ++ codes " after " ++ decimal steps ++ codes " steps\n"
+    ++ codes " at " ++ hex8 at ++ codes " after " ++ decimal steps ++ codes " steps\n"
 line_of (Illegal at steps) = codes "halo: illegal"
-    ++ codes " at " ++ address_text at ++ codes " after " ++ decimal steps ++ codes " steps\n"
+    ++ codes " at " ++ hex8 at ++ codes " after " ++ decimal steps ++ codes " steps\n"

@@ -2,10 +2,12 @@
 pub mod Words
 pub mod Asking
 pub mod Endings
-pub mod Outcomes
+pub mod World
+pub mod Reads
 pub mod Rewrite
+pub mod Run
+pub mod RunEnds
 pub mod Headline
 pub mod Commands
-pub mod World
 pub mod Ends
 pub mod Answers

@@ -1,6 +1,7 @@
--- The grammar of the command line: `rewrite PLAN FILE`.
+-- The grammar of the command line: `rewrite PLAN FILE` and `run [--steps N] FILE`.
 use Rattle.std.specs.Prelude.{◌≡◌, ◌≢◌, ℕ, ◌+◌, ◌⊎◌, List, [], ◌∷◌, ◌++◌, length, take, map, slice_get, Some, codes, string_bytes, String}
 use Rattle.std.specs.declared.alloc.Global.{Global}
+use Rattle.text_fields.specs.Reading.{number_of}
 
 -- the bytes of each word
 abbrev pub texts : List (String Global) → List (List ℕ)
@@ -15,22 +16,30 @@ IsOperand (first ∷ rest) = first ≢ 45
 abbrev pub IsOperandAt : List (List ℕ) → ℕ → List ℕ → Type 0
 IsOperandAt words place word = (slice_get words place ≡ Some word) × IsOperand word
 
--- what a line can ask for
+-- what a line can ask for: the new file of a plan and a file, or a run of a file for so many steps
 pub data Asked : Type 0 where
   Rewrite : (plan file : List ℕ) → Asked
+  Run : (steps : ℕ) (file : List ℕ) → Asked
 
--- the words that ask for it
-abbrev pub words_of : Asked → List (List ℕ)
-words_of (Rewrite plan file) = codes "rewrite" ∷ plan ∷ file ∷ []
+-- the steps of a line without the option, and the most that it may give
+abbrev pub default_steps : ℕ
+default_steps = 100000000
 
--- each operand may be one
-abbrev pub HasOperands : Asked → Type 0
-HasOperands (Rewrite plan file) = IsOperand plan × IsOperand file
+abbrev pub most_steps : ℕ
+most_steps = 4294967295
+
+-- the words between `run` and its operand: none, or the option with its value in decimal
+abbrev pub AreSteps : List (List ℕ) → ℕ → Type 0
+AreSteps [] steps = steps ≡ default_steps
+AreSteps (name ∷ []) steps = ⊥
+AreSteps (name ∷ value ∷ []) steps = (name ≡ codes "--steps") × (number_of most_steps value ≡ Some steps)
+AreSteps (name ∷ value ∷ next ∷ more) steps = ⊥
 
 -- the words are a line of the grammar that asks for this
-pub record AsksFor (words : List (List ℕ)) (asked : Asked) : Type 0 where
-  pub words_are : words ≡ words_of asked
-  pub operands : HasOperands asked
+abbrev pub AsksFor : List (List ℕ) → Asked → Type 0
+AsksFor words (Rewrite plan file) = (words ≡ codes "rewrite" ∷ plan ∷ file ∷ []) × IsOperand plan × IsOperand file
+AsksFor words (Run steps file) =
+    (options : List (List ℕ)) × (words ≡ codes "run" ∷ options ++ file ∷ []) × AreSteps options steps × IsOperand file
 
 -- the words are a line of the grammar
 abbrev pub IsLine : List (List ℕ) → Type 0

@@ -1,12 +1,20 @@
 // How a command ends.
+use elf_read::ElfRefusal;
+use machine_spec::FaultKind;
 use thiserror::Error;
 
 /// Why a file was refused.
 #[derive(Clone, Copy, Debug, PartialEq, Eq, Error)]
 pub enum FileRefusal {
-    /// The file is longer than 33554432 bytes, or isn't of the first form.
+    /// The file to be rewritten is longer than 33554432 bytes, or isn't of the first form.
     #[error("not this form")]
     NotFirstForm,
+    /// The file to be run is longer than 34603008 bytes.
+    #[error("too long")]
+    TooLong,
+    /// The file to be run isn't a readable ELF executable for this machine.
+    #[error("{0}")]
+    Elf(ElfRefusal),
 }
 
 /// Why a plan was refused.
@@ -17,28 +25,16 @@ pub enum PlanRefusal {
     NotFirstForm,
 }
 
-/// The kinds of address faults.
-#[derive(Clone, Copy, Debug, PartialEq, Eq)]
-pub enum FaultKind {
-    /// A load, a store or a buffer isn't aligned or isn't inside memory that allows it.
-    F1,
-    /// A branch is undecided.
-    F2,
-    /// A jump goes nowhere.
-    F3,
-    /// An argument of an ecall is undecided.
-    F4,
-    /// An argument of a heap function is bad.
-    F5,
-    /// There is no instruction at the program counter.
-    F6,
-}
-
 /// How a command ends.
 #[derive(Clone, Copy, Debug, PartialEq, Eq)]
 pub enum Ending {
-    /// The command is done.
+    /// The command is done, and says nothing of it.
     Done,
+    /// The program exits with a status, after so many steps, that of the exit included.
+    Exited {
+        status: u8,
+        steps: u32,
+    },
     /// The words aren't in the grammar. The place, from 0, is that of the first word that no line of the
     /// grammar has there, or the number of words.
     Usage(u64),

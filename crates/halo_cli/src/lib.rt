@@ -9,11 +9,12 @@ mod headline;
 mod line;
 mod note;
 mod rewrite;
+mod run;
 #[cfg(test)]
 mod tests;
 mod words;
 
-pub use endings::{Ending, FaultKind, FileRefusal, PlanRefusal};
+pub use endings::{Ending, FileRefusal, PlanRefusal};
 use halo_outside::{Files, Sink, Source};
 pub use headline::new_files_do_the_same;
 use std::alloc::Global;
@@ -21,19 +22,29 @@ use std::alloc::Global;
 /// Runs the program on the words of its command line, without its own name, and gives the status with
 /// which it ends.
 ///
-/// `rewrite PLAN FILE` writes the file, changed as the plan says, to `out`. Where the command isn't
-/// done, one line on `note` says why. It is tried after a failed `out`, too. The crate `rewriter` says
+/// `rewrite PLAN FILE` writes the file, changed as the plan says, to `out`. The crate `rewriter` says
 /// which files and plans are of the first form. The input isn't read.
+///
+/// `run [--steps N] FILE` runs the file, as it is, on the flat machine, with the program's input from
+/// `input` and its output to `out`. N is from 0 to 4294967295, and 100000000 where it isn't given. All
+/// memory is taken before the machine starts. The file may be any 32-bit ELF executable for RISC-V that
+/// `elf_read` reads.
+///
+/// One line on `note` says how the command ended, unless `rewrite` is done. It is tried after a failed
+/// `out`, too.
 ///
 /// | Status | Line on note | Comes |
 /// |---|---|---|
-/// | 0 | none | the command is done |
+/// | 0 | none; of `run`, `exit S after N steps` | the command is done; the program exits with status S at step N |
 /// | 64 | `halo: usage: word K` | the words are no line; K is the place, from 0, of the first wrong word, or the number of words |
-/// | 65 | `halo: file: not this form` | the file is longer than 33554432 bytes, or isn't of the first form |
+/// | 65 | `halo: file: TEXT` | the file is longer than 33554432 bytes or isn't of the first form; of `run`, it is longer than 34603008 bytes or isn't readable |
 /// | 66 | `halo: plan: not this form` | the plan's text is longer than 1048576 bytes, or isn't of the first form for the file |
-/// | 67 | `halo: read failed` | a file is missing or couldn't be read |
+/// | 67 | `halo: read failed` | a file is missing or couldn't be read, or the input couldn't be read |
 /// | 68 | `halo: write failed` | `out` or `note` failed |
 /// | 69 | `halo: out of memory` | there was no memory |
+/// | 70 | `halo: still running after N steps` | the program runs longer |
+/// | 71 | `halo: fault KIND at ADDR after N steps` | the program meets an address fault: F1 an access, F3 a jump, F6 a fetch |
+/// | 72 | `halo: illegal at ADDR after N steps` | the program comes to a word that is no instruction to be run |
 pub fn halo<F: Files, I: Source, O: Sink, N: Sink>(
     alloc: Global,
     words: &[String],
@@ -43,10 +54,10 @@ pub fn halo<F: Files, I: Source, O: Sink, N: Sink>(
     note: &mut N,
 ) -> u8
     ensures { Answers (texts words.now)
-        (record { files = F.seen files.old; input = I.seen input.old; out = O.seen out.old; note = N.seen note.old })
-        (record { files = F.seen files.new; input = I.seen input.new; out = O.seen out.new; note = N.seen note.new })
+        (record { outside = record { files = F.seen files.old; input = I.seen input.old; out = O.seen out.old }; note = N.seen note.old })
+        (record { outside = record { files = F.seen files.new; input = I.seen input.new; out = O.seen out.new }; note = N.seen note.new })
         result }
 {
-    let ending = line::run(alloc, words, files, out);
+    let ending = line::run_line(alloc, words, files, input, out);
     note::finish(note, ending)
 }

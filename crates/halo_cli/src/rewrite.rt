@@ -1,12 +1,12 @@
 // `rewrite PLAN FILE`: reads the plan and the file, makes the new file and writes it.
 ghost use Rattle.std.specs.Prelude.{IfOk, IfErr};
-ghost use Rattle.halo_outside.specs.Seen.{FilesSeen, SinkSeen};
-ghost use Rattle.halo_cli.specs.Words.{Asked};
+ghost use Rattle.halo_outside.specs.Seen.{FilesSeen, SourceSeen, SinkSeen};
+ghost use Rattle.halo_cli.specs.declared.endings.Ending.TheVariants.{Done};
 ghost use Rattle.halo_cli.specs.Words.Asked.{Rewrite};
-ghost use Rattle.halo_cli.specs.Outcomes.Outcome.{Fits};
-ghost use Rattle.halo_cli.specs.Commands.{Brings, CommandWrites};
+ghost use Rattle.halo_cli.specs.Reads.{HasReadCause};
+ghost use Rattle.halo_cli.specs.Rewrite.{RewriteBrings, RewriteWrites, IsStop};
 ghost use Rattle.halo_cli.specs.World.{OnlyReads};
-ghost use Rattle.halo_cli.specs.Ends.{HasCause, IsStop, Ends};
+ghost use Rattle.halo_cli.specs.Ends.{Ends};
 
 use crate::endings::{Ending, FileRefusal, PlanRefusal};
 use halo_outside::{Failed, FileFault, Files, Sink, write_all};
@@ -14,12 +14,12 @@ use rewriter::{FirstRefusal, rewrite_first};
 use std::alloc::Global;
 
 /// The most bytes of a plan's text.
-pub const PLAN_LIMIT: usize = 1048576;
+const PLAN_LIMIT: usize = 1048576;
 
 /// The most bytes of a file.
-pub const FILE_LIMIT: usize = 33554432;
+const FILE_LIMIT: usize = 33554432;
 
-/// Writes the new file of the file under the plan to `out`. The plan is read first.
+/// Writes the new file of the file under the plan to `out`. The plan is read first. No input is read.
 pub fn rewrite_file<F: Files, O: Sink>(
     alloc: Global,
     plan_name: &str,
@@ -27,8 +27,9 @@ pub fn rewrite_file<F: Files, O: Sink>(
     files: &mut F,
     out: &mut O,
 ) -> Ending
-    ensures { Ends (Rewrite plan_name.now file_name.now)
-        (F.seen files.old) (F.seen files.new) (O.seen out.old) (O.seen out.new) result }
+    ensures { (input : SourceSeen) → Ends (Rewrite plan_name.now file_name.now)
+        (record { files = F.seen files.old; input = input; out = O.seen out.old })
+        (record { files = F.seen files.new; input = input; out = O.seen out.new }) result }
 {
     match make_new_file(alloc, plan_name, file_name, files) {
         Err(ending) => ending,
@@ -48,12 +49,12 @@ fn make_new_file<F: Files>(
 ) -> Result<Vec<u8>, Ending>
     ensures reads { OnlyReads (F.seen files.old) (F.seen files.new) }
     ensures fits { IfOk result (λ new.
-        Brings (Rewrite plan_name.now file_name.now) (F.seen files.old) (F.seen files.new) Fits) }
+        RewriteBrings plan_name.now file_name.now (F.seen files.old) (F.seen files.new) Done) }
     ensures made { IfOk result (λ new.
-        CommandWrites (Rewrite plan_name.now file_name.now) (F.seen files.old) (F.seen files.new) new.items) }
+        RewriteWrites plan_name.now file_name.now (F.seen files.old) (F.seen files.new) new.items) }
     ensures stops { IfErr result IsStop }
-    ensures cause { IfErr result (HasCause
-        (Brings (Rewrite plan_name.now file_name.now) (F.seen files.old) (F.seen files.new))
+    ensures cause { IfErr result (HasReadCause
+        (RewriteBrings plan_name.now file_name.now (F.seen files.old) (F.seen files.new))
         (F.seen files.old) (F.seen files.new)) }
 {
     let plan = match files.read(alloc, plan_name, PLAN_LIMIT) {

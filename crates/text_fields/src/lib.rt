@@ -7,4 +7,4 @@ mod readers;
 mod tests;
 
 pub use printers::{hex_digits, push_decimal, push_hex};
-pub use readers::{expect, read_byte, read_hex, read_number, read_word};
+pub use readers::{expect, number, read_byte, read_hex, read_number, read_word};

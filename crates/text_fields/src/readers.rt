@@ -22,9 +22,10 @@ fn cut(bytes: &[u8], end: u8) -> Option<(&[u8], &[u8])>
     None
 }
 
-// The number that `word` writes in decimal: at most `max`, without a leading zero.
+/// The number that `word` writes in decimal: at most `max`, without a leading zero; none where it
+/// writes no such number.
 #[tactic(auto, unfolding(crate::specs::Reading::number_of))]
-fn number(word: &[u8], max: u64) -> Option<u64>
+pub fn number(word: &[u8], max: u64) -> Option<u64>
     requires { max < 2 ^ 59 }
     ensures value { Finds (λ n. n) result (number_of max word.now) }
     ensures range { IfSome result (λ n. n ≤ max) }

@@ -1,11 +1,13 @@
 // Fields read and written, each once.
 use crate::{
-    expect, hex_digits, push_decimal, push_hex, read_byte, read_hex, read_number, read_word,
+    expect, hex_digits, number, push_decimal, push_hex, read_byte, read_hex, read_number, read_word,
 };
 use std::test::Fail;
 
 #[test]
 fn reads_fields(rt: HostRuntime) -> Result<(), Fail> {
+    assert_eq!(rt; number(b"4294967295", 4294967295), Some(4294967295));
+    assert_eq!(rt; number(b"007", 4294967295), None);
     let rest = expect(b"row 17 rest", b"row ").ok_or("no front")?;
     assert_eq!(rt; rest, b"17 rest".as_slice());
     let (byte, rest) = read_byte(rest, b' ').ok_or("no byte")?;

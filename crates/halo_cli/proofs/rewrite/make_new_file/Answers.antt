@@ -2,7 +2,7 @@ use Rattle.std.proofs.Common.{inl, inr, refl, rules}
 use Rattle.rewriter.specs.First.{IsRewriteOf}
 use Rattle.first_keeps.proofs.Law.{kept}
 use Rattle.halo_cli.specs.Rewrite.{AreRead}
-use Rattle.halo_cli.proofs.Outcomes.{forms_bring}
+use Rattle.halo_cli.proofs.Due.{forms_bring}
 use Rattle.halo_cli.proofs.rewrite.make_new_file.Goals as goal
 
 pub returns-in-Err-File-clause-cause : goal.returns-in-Err-File-clause-cause

@@ -1,0 +1,87 @@
+// `run [--steps N] FILE`: reads the file and runs it on the flat machine.
+
+ghost use Rattle.std.specs.Prelude.{◌≡◌, [], List, ℕ, None, IfOk, IfErr};
+ghost use Rattle.halo_outside.specs.Seen.{FilesSeen, SourceSeen, SinkSeen};
+ghost use Rattle.elf_read.specs.Refusals.{refusal};
+ghost use Rattle.flat_spec.specs.Machine.{start};
+ghost use Rattle.flat_machine.specs.Seen.{between};
+ghost use Rattle.halo_cli.specs.Words.Asked.{Run};
+ghost use Rattle.halo_cli.specs.Reads.{HasReadCause, IsRead, run_limit};
+ghost use Rattle.halo_cli.specs.Run.{LoadBrings, IsLoadEnding};
+ghost use Rattle.halo_cli.specs.RunEnds.{ending_of_run};
+ghost use Rattle.halo_cli.specs.World.{OnlyReads};
+ghost use Rattle.halo_cli.specs.Ends.{Ends};
+
+use crate::endings::{Ending, FileRefusal};
+use elf_read::{ElfRefusal, read_elf};
+use flat_machine::{Flat, RunEnd, run_flat, start};
+use flat_mem::load;
+use halo_outside::{FileFault, Files, Sink, Source};
+use std::alloc::Global;
+
+/// The most bytes of a file that is run.
+const RUN_LIMIT: usize = 34603008;
+
+/// Runs the file for at most so many steps, with this input and output. All memory is taken before
+/// the machine starts.
+pub fn run_file<F: Files, I: Source, O: Sink>(
+    alloc: Global,
+    steps: u32,
+    name: &str,
+    files: &mut F,
+    input: &mut I,
+    out: &mut O,
+) -> Ending
+    ensures { Ends (Run steps name.now)
+        (record { files = F.seen files.old; input = I.seen input.old; out = O.seen out.old })
+        (record { files = F.seen files.new; input = I.seen input.new; out = O.seen out.new }) result }
+{
+    match load_machine(alloc, name, files) {
+        Err(ending) => ending,
+        Ok(machine) => {
+            let mut machine = machine;
+            ending_of(run_flat(&mut machine, steps, input, out), steps)
+        }
+    }
+}
+
+// The machine that is about to run the file, or how the command ends without one.
+fn load_machine<F: Files>(alloc: Global, name: &str, files: &mut F) -> Result<Flat, Ending>
+    ensures reads { OnlyReads (F.seen files.old) (F.seen files.new) }
+    ensures loaded { IfOk result (λ machine. (file : List ℕ)
+        × IsRead name.now run_limit (F.seen files.old) (F.seen files.new) file
+        × (refusal file ≡ None) × (machine ≡ between (start file) [])) }
+    ensures stops { IfErr result IsLoadEnding }
+    ensures cause { IfErr result (HasReadCause
+        (LoadBrings name.now (F.seen files.old) (F.seen files.new)) (F.seen files.old) (F.seen files.new)) }
+{
+    let file = match files.read(alloc, name, RUN_LIMIT) {
+        Ok(file) => file,
+        Err(FileFault::Failed) => return Err(Ending::ReadFault),
+        Err(FileFault::TooLong) => return Err(Ending::File(FileRefusal::TooLong)),
+        Err(FileFault::Memory) => return Err(Ending::Memory),
+    };
+    let elf = match read_elf(alloc, &file) {
+        Ok(elf) => elf,
+        Err(ElfRefusal::Memory) => return Err(Ending::Memory),
+        Err(why) => return Err(Ending::File(FileRefusal::Elf(why))),
+    };
+    match load(alloc, &elf, &file) {
+        Ok(memory) => Ok(start(memory, elf.entry)),
+        Err(_) => Err(Ending::Memory),
+    }
+}
+
+// How the command ends after a run of at most so many steps.
+fn ending_of(end: RunEnd, steps: u32) -> Ending
+    ensures { result ≡ ending_of_run end steps }
+{
+    match end {
+        RunEnd::Exited { status, steps } => Ending::Exited { status, steps },
+        RunEnd::Illegal { at, steps } => Ending::Illegal { at, steps },
+        RunEnd::Fault { kind, at, steps } => Ending::Fault { kind, at, steps },
+        RunEnd::Steps => Ending::StillRunning { steps },
+        RunEnd::ReadFault => Ending::ReadFault,
+        RunEnd::WriteFault => Ending::WriteFault,
+    }
+}
