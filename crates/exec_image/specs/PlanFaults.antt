@@ -46,7 +46,7 @@ abbrev pub strange_masks : List PlanLine → List Row → Option PlanFault
 strange_masks lines [] = None
 strange_masks lines (r ∷ rs) = strange_mask lines r.mask or_else strange_masks lines rs
 
--- the first row, counted from a number on, whose group is none of 16 or that is row 64
+-- the first row, counted from a number on, whose group is none of 16 or that has 64 rows before it
 abbrev pub bad_row_from : ℕ → List Row → Option PlanFault
 bad_row_from i [] = None
 bad_row_from i (r ∷ rs) = when (nat_le 16 r.group || (i == 64)) (PlanRow i) or_else bad_row_from (i + 1) rs

@@ -7,7 +7,8 @@ use Rattle.place_spec.specs.Layout.{Layout, first_layout, chunk_of, chunk_front}
 use Rattle.place_spec.specs.Place.{Placed, placed}
 use Rattle.place_spec.specs.Release.{released}
 
--- a block is asked for, or the block at a granule is released; a move is one after the other
+-- a block is asked for, or the block at a granule is released; a move is the first and, where that isn't
+-- refused, then the second
 pub data Request : Type 0 where
   Places : (need bits : ℕ) → Request
   Releases : (granule : ℕ) → Request

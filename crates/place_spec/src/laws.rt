@@ -33,17 +33,29 @@ pub fn a_block_is_refused_exactly_where_nothing_has_room()
         ↔ IsRefused area layout need (group_of_bits rows bits) }
 {}
 
-/// No two live blocks share a granule.
+/// No two live blocks share a granule; so it is in every layout that requests lead to.
 pub fn live_blocks_share_no_granule()
-    ensures { (area : Area) (layout : Layout) → Sound area layout
+    ensures sound { (area : Area) (layout : Layout) → Sound area layout
+        → AllPairs (λ b c. (i : ℕ) → Covers b i → ¬ Covers c i) layout.blocks }
+    ensures reached { (rows : List Row) (area : Area) (layout : Layout)
+        → All (λ row. row.group < 16) rows → IsReached rows area layout
         → AllPairs (λ b c. (i : ℕ) → Covers b i → ¬ Covers c i) layout.blocks }
 {}
 
-/// Every live block lies inside the area, and inside the fallback or one chunk.
+/// Every live block lies inside the area, and inside the fallback or one chunk; so it is in every
+/// layout that requests lead to.
 pub fn live_blocks_lie_inside()
     ensures area { (area : Area) (layout : Layout) → Sound area layout
         → All (λ b. b.first + b.granules ≤ granules area) layout.blocks }
     ensures part { (area : Area) (layout : Layout) → Sound area layout
+        → All (λ b. (b.first + b.granules ≤ area.fallback) ⊎ ((k : ℕ) × (k < area.chunks)
+        × (chunk_front area k ≤ b.first)
+        × (b.first + b.granules ≤ chunk_front area (k + 1)))) layout.blocks }
+    ensures reached_area { (rows : List Row) (area : Area) (layout : Layout)
+        → All (λ row. row.group < 16) rows → IsReached rows area layout
+        → All (λ b. b.first + b.granules ≤ granules area) layout.blocks }
+    ensures reached_part { (rows : List Row) (area : Area) (layout : Layout)
+        → All (λ row. row.group < 16) rows → IsReached rows area layout
         → All (λ b. (b.first + b.granules ≤ area.fallback) ⊎ ((k : ℕ) × (k < area.chunks)
         × (chunk_front area k ≤ b.first)
         × (b.first + b.granules ≤ chunk_front area (k + 1)))) layout.blocks }
