@@ -61,10 +61,20 @@ mark = codes "HALO-LAYOUT-RV1" ++ 10 ∷ []
 abbrev pub text_segment : ℕ → List ℕ → NewSegment
 text_segment at bytes = record { vaddr = at; flags = 5; mem_size = length bytes; bytes = bytes }
 
--- the new file of an executable without heap functions
+-- what the new file of an executable without heap functions is made of: the patches of the chosen
+-- sites, and the new text with its segment
+abbrev pub patches_for : List ℕ → Plan → List Patch
+patches_for file plan = patches_from file 0 plan.sites
+
+abbrev pub text_for : List ℕ → Plan → List ℕ
+text_for file plan = mark ++ stubs_from file 0 plan.sites
+
+abbrev pub segments_for : List ℕ → Plan → List NewSegment
+segments_for file plan = text_segment (text_at file) (text_for file plan) ∷ []
+
+-- the new file
 unfoldable pub rewritten : List ℕ → Plan → List ℕ
-rewritten file plan =
-    new_file file (patches_from file 0 plan.sites) (text_segment (text_at file) (mark ++ stubs_from file 0 plan.sites) ∷ [])
+rewritten file plan = new_file file (patches_for file plan) (segments_for file plan)
 
 -- a file is the new file of an executable without heap functions and a plan
 pub record NewFile (file : List ℕ) (plan : Plan) (new : List ℕ) : Type 0 where
