@@ -43,7 +43,7 @@ none file strings name end inside g last = λ k d l.
     grind (arith, nat_tests, m)
 
 -- a name ends in the strings exactly where it begins before the end of the last name
-pub ended : (file : List ℕ) (strings : Section) (name end : ℕ) → strings.offset + strings.size ≤ length file → end ≤ strings.size
+ended : (file : List ℕ) (strings : Section) (name end : ℕ) → strings.offset + strings.size ≤ length file → end ≤ strings.size
     → (0 < end → byte_at file (strings.offset + (end - 1)) ≡ 0)
     → ((k : ℕ) → end ≤ k → k < strings.size → byte_at file (strings.offset + k) ≢ 0)
     → is_ended file strings name ≡ nat_lt name end

@@ -11,7 +11,7 @@ length-entries f size at zero = refl
 length-entries f size at (suc n) =
     length-append (entries f size at n) (f (at + size * n) ∷ []) ∙ ap (λ k. k + 1) (length-entries f size at n) ∙ add-one n
 
-pub get_or-entries : {A : Type 0} (f : ℕ → A) (size at n k : ℕ) (d : A) → k < n → get_or (entries f size at n) k d ≡ f (at + size * k)
+get_or-entries : {A : Type 0} (f : ℕ → A) (size at n k : ℕ) (d : A) → k < n → get_or (entries f size at n) k d ≡ f (at + size * k)
 get_or-entries f size at zero k d h = absurd (omega arith)
 get_or-entries f size at (suc n) k d h = elim (cases_lt k n) [
   | inl l ↦ get_or-append (entries f size at n) (f (at + size * n) ∷ []) d k (omega (arith, length-entries f size at n)) ∙ get_or-entries f size at n k d l
@@ -23,13 +23,8 @@ get_or-entries f size at (suc n) k d h = elim (cases_lt k n) [
       rw e r
 ]
 
--- what holds at each offset holds of all records, and the other way round
+-- what holds at each offset holds of all records
 pub all_entries : {A : Type 0} (P : A → Type 0) (f : ℕ → A) (size at n : ℕ) → ((k : ℕ) → k < n → P (f (at + size * k)))
     → All P (entries f size at n)
 all_entries P f size at n h = λ k d l.
     let i : k < n = omega (arith, length-entries f size at n, l) in subst P (sym (get_or-entries f size at n k d i)) (h k i)
-
-pub entry_of : {A : Type 0} (P : A → Type 0) (f : ℕ → A) (size at n : ℕ) → All P (entries f size at n)
-    → (k : ℕ) → k < n → P (f (at + size * k))
-entry_of P f size at n h k l =
-    subst P (get_or-entries f size at n k (f 0) l) (h k (f 0) (omega (arith, length-entries f size at n)))

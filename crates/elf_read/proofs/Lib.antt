@@ -1,9 +1,4 @@
-pub mod FiveSections
-pub mod Head
-pub mod HeapNames
 pub mod Entries
-pub mod FirstForm
-pub mod FirstFacts
 pub mod EndedNames
 pub mod Finds
 pub mod Sizes

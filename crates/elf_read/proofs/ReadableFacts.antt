@@ -20,7 +20,7 @@ use Rattle.elf_read.specs.Refusals.{◌or_else◌, header_refusal, memory_size, 
 use Rattle.elf_read.proofs.Below.{below_none}
 use Rattle.elf_read.proofs.Entries.{all_entries}
 use Rattle.elf_read.proofs.Sizes.{all_in, apart_pairs, not_some}
-use Rattle.elf_read.proofs.TablesInside.{stays}
+use Rattle.elf_read.proofs.TablesInside.{stays, strings_inside, symbols_inside}
 
 -- neither of two checks refuses
 none_both : (p q : Option ElfRefusal) → (p or_else q) ≡ None → (p ≡ None) × (q ≡ None)
@@ -100,18 +100,18 @@ name_inside file strings at false e h =
     let n : prefix_len (λ x. not (nat_eq x 0)) (drop m file) ≤ length (drop m file) = prefix_len-le-length (λ x. not (nat_eq x 0)) (drop m file) in
     rw e (omega (arith, l, n, length-drop m file))
 
-names_in : (file : List ℕ) (ss : List Section) (table strings : Option Section) → name_out_in file table strings ≡ None
+names_in : (file : List ℕ) (table strings : Option Section) → name_out_in file table strings ≡ None
     → All (λ s. s.name_at + s.name_len ≤ length file) (symbols_in file table strings)
-names_in file ss None strings h = All-nil (λ s. s.name_at + s.name_len ≤ length file)
-names_in file ss (Some t) None h = All-nil (λ s. s.name_at + s.name_len ≤ length file)
-names_in file ss (Some t) (Some strings) h =
+names_in file None strings h = All-nil (λ s. s.name_at + s.name_len ≤ length file)
+names_in file (Some t) None h = All-nil (λ s. s.name_at + s.name_len ≤ length file)
+names_in file (Some t) (Some strings) h =
     all_entries (λ (s : Symbol). s.name_at + s.name_len ≤ length file) (symbol_at file strings) 16 t.offset (t.size / 16) (λ i l.
     let p : ℕ → Bool = λ j. is_name_out file strings (word_at file (t.offset + 16 * j)) in
     name_inside file strings (t.offset + 16 * i) _ refl (below_none p (t.size / 16) (not_some NameOut _ h) i l))
 
 names_inside : (file : List ℕ) → name_out file (sections_of file) ≡ None → All (λ s. s.name_at + s.name_len ≤ length file) (symbols_of file)
 unfolding name_out
-names_inside file h = names_in file (sections_of file) (find is_symtab (sections_of file)) (strings_of (sections_of file) (find is_symtab (sections_of file))) h
+names_inside file h = names_in file (find is_symtab (sections_of file)) (strings_of (sections_of file) (find is_symtab (sections_of file))) h
 
 pub readable_facts : (file : List ℕ) → IsReadable file → ReadableFacts file
 unfolding too_large
@@ -133,5 +133,7 @@ readable_facts file h =
       apart = apart_pairs (segments_of file) d;
       memory = let l : nat_lt 134217728 (memory_size (segments_of file)) ≡ false = not_when _ _ e in grind (arith, nat_tests);
       sections = λ i s l. section_inside _ _ _ (length file) (stays (length file) (sections_of file) i s f l);
+      symbols = λ t e. symbols_inside (length file) (sections_of file) t f e;
+      strings = λ s e. strings_inside (length file) (sections_of file) s f e;
       names = names_inside file g;
     }

@@ -1,5 +1,5 @@
 -- What passed checks of the sections say of the symbol table and its strings.
-use Rattle.std.proofs.Common.{◌≡◌, ◌≢◌, ℕ, zero, suc, ◌+◌, ◌<◌, ◌≤◌, Bool, true, false, not, ◌&&◌, ◌||◌, List, [], ◌∷◌, length, get_or, nat_eq, nat_lt, refl, ◌∙◌, arith, inl, inr, Some, None, ◌%◌}
+use Rattle.std.proofs.Common.{◌≡◌, ◌≢◌, ℕ, zero, suc, ◌+◌, ◌<◌, ◌≤◌, Bool, true, false, not, ◌&&◌, ◌||◌, List, [], ◌∷◌, length, get_or, nat_eq, nat_lt, refl, sym, ◌∙◌, subst, arith, inl, inr, Option, Some, None, ◌%◌}
 use Rattle.std.specs.List.{find, slice_get}
 use Rattle.std.proofs.lemmas.Bool.{cases_lt}
 use Rattle.std.proofs.lemmas.Bool.Decides.{nat_tests}
@@ -7,7 +7,7 @@ use Rattle.std.proofs.lemmas.List.Quantifiers.{position-Some}
 use Rattle.std.proofs.lemmas.Option.{slice_get-get_or, slice_get_past}
 use Rattle.elf_spec.specs.declared.Section.{Section}
 use Rattle.elf_spec.specs.Relocations.{is_at}
-use Rattle.elf_spec.specs.Tables.{is_symtab, symtab_index}
+use Rattle.elf_spec.specs.Tables.{is_symtab, strings_of, symtab_index}
 use Rattle.elf_read.specs.declared.refusals.ElfRefusal.TheVariants.{SectionOut}
 use Rattle.elf_read.specs.Checks.{is_bad_table, is_strtab, leaves_file}
 use Rattle.elf_read.specs.Refusals.{section_from, section_out}
@@ -99,3 +99,32 @@ tables_are bytes ss i d e h at =
 
     three : (k : ℕ) → nat_eq k 3 ≡ true → (k ≢ 0) × (k ≢ 8)
     three k h = let e : k ≡ 3 = grind (arith, nat_tests) in (λ z. omega arith, λ z. omega arith)
+
+some_is : {A : Type 0} (x y : A) (o : Option A) → o ≡ Some x → o ≡ Some y → x ≡ y
+some_is x y o h g = cc
+
+-- the symbol table that is found lies in the file
+pub symbols_inside : (bytes : ℕ) (ss : List Section) (t : Section) → section_out bytes ss ≡ None → find is_symtab ss ≡ Some t
+    → t.offset + t.size ≤ bytes
+symbols_inside bytes ss t h f = decide (symtab_index ss) refl
+  where
+    decide : (o : Option ℕ) → symtab_index ss ≡ o → t.offset + t.size ≤ bytes
+    decide None e = absurd (let q : None ≡ Some t = sym (none_found ss e) ∙ f in cc)
+    decide (Some i) e =
+        let tables : IsTables bytes ss _ = tables_are bytes ss i t t h e in
+        let same : get_or ss i t ≡ t = some_is (get_or ss i t) t (find is_symtab ss) tables.symbols f in
+        subst (λ (x : Section). x.offset + x.size ≤ bytes) same tables.symbols_inside
+
+-- and so do its strings
+pub strings_inside : (bytes : ℕ) (ss : List Section) (s : Section) → section_out bytes ss ≡ None → strings_of ss (find is_symtab ss) ≡ Some s
+    → s.offset + s.size ≤ bytes
+strings_inside bytes ss s h f = decide (symtab_index ss) refl
+  where
+    decide : (o : Option ℕ) → symtab_index ss ≡ o → s.offset + s.size ≤ bytes
+    decide None e = absurd (let q : strings_of ss None ≡ Some s = subst (λ o. strings_of ss o ≡ Some s) (none_found ss e) f in cc)
+    decide (Some i) e =
+        let t : Section = get_or ss i s in
+        let tables : IsTables bytes ss _ = tables_are bytes ss i s s h e in
+        let g : strings_of ss (Some t) ≡ Some s = subst (λ o. strings_of ss o ≡ Some s) tables.symbols f in
+        let same : get_or ss t.link s ≡ s = some_is (get_or ss t.link s) s (strings_of ss (Some t)) tables.strings g in
+        subst (λ (x : Section). x.offset + x.size ≤ bytes) same tables.strings_inside

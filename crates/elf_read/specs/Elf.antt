@@ -1,10 +1,11 @@
 -- What a readable file is read as.
-use Rattle.std.specs.Prelude.{◌≡◌, ℕ, ◌⊎◌, List, Some, None, Result, Ok, Err}
+use Rattle.std.specs.Prelude.{◌≡◌, ℕ, ◌<◌, ◌^◌, ◌⊎◌, List, Some, None, length, Result, Ok, Err}
 use Rattle.elf_read.specs.declared.elf_file.Elf.{Elf}
 use Rattle.elf_read.specs.declared.refusals.ElfRefusal.{ElfRefusal}
 use Rattle.elf_read.specs.declared.refusals.ElfRefusal.TheVariants.{Memory}
 use Rattle.elf_spec.specs.Records.{e_entry, e_flags, e_phoff, e_shoff, sections_of, segments_of}
 use Rattle.elf_spec.specs.Tables.{symbols_of}
+use Rattle.elf_read.specs.Readable.{ReadableFacts}
 use Rattle.elf_read.specs.Refusals.{refusal}
 
 -- no check refuses the file
@@ -27,3 +28,10 @@ elf_of file = record {
 abbrev pub Gives : Result Elf ElfRefusal → List ℕ → Type 0
 Gives (Ok elf) file = IsReadable file × (elf ≡ elf_of file)
 Gives (Err why) file = (refusal file ≡ Some why) ⊎ (why ≡ Memory)
+
+-- the headers and symbols were read from the file, which is readable
+pub record IsReadFrom (elf : Elf) (file : List ℕ) : Type 0 where
+  pub short : length file < 2 ^ 32
+  pub readable : IsReadable file
+  pub fields : elf ≡ elf_of file
+  pub facts : ReadableFacts file

@@ -1,5 +1,3 @@
-pub mod FirstLayout
-pub mod First
 pub mod Checks
 pub mod Refusals
 pub mod Overlaps

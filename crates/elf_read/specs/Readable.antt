@@ -1,11 +1,11 @@
 -- What a readable file's fields keep, for those who use them.
-use Rattle.std.specs.Prelude.{◌≡◌, ◌≢◌, ℕ, ◌+◌, ◌*◌, ◌<◌, ◌≤◌, true, false, List, length}
+use Rattle.std.specs.Prelude.{◌≡◌, ◌≢◌, ℕ, ◌+◌, ◌*◌, ◌<◌, ◌≤◌, true, false, List, length, find, Some}
 use Rattle.std.specs.List.{All, AllPairs}
 use Rattle.elf_spec.specs.declared.Segment.{Segment}
 use Rattle.elf_spec.specs.declared.Section.{Section}
 use Rattle.elf_spec.specs.Memory.{is_loaded}
 use Rattle.elf_spec.specs.Records.{e_phnum, e_phoff, e_shnum, e_shoff, sections_of, segments_of}
-use Rattle.elf_spec.specs.Tables.{symbols_of}
+use Rattle.elf_spec.specs.Tables.{is_symtab, strings_of, symbols_of}
 use Rattle.elf_read.specs.Checks.{meets}
 use Rattle.elf_read.specs.Refusals.{memory_size}
 
@@ -32,5 +32,8 @@ pub record ReadableFacts (file : List ℕ) : Type 0 where
   pub apart : AllPairs (λ s t. meets s t ≡ false) (segments_of file)
   pub memory : memory_size (segments_of file) ≤ 134217728
   pub sections : All (IsSectionInside (length file)) (sections_of file)
+  -- the symbol table and its strings lie in the file
+  pub symbols : (t : Section) → find is_symtab (sections_of file) ≡ Some t → t.offset + t.size ≤ length file
+  pub strings : (s : Section) → strings_of (sections_of file) (find is_symtab (sections_of file)) ≡ Some s → s.offset + s.size ≤ length file
   -- each name is a part of the file
   pub names : All (λ s. s.name_at + s.name_len ≤ length file) (symbols_of file)

@@ -15,11 +15,11 @@ use Rattle.elf_read.specs.Checks.{has_bad_flags, has_header, has_version, is_bad
 
 -- the first refusal of two
 infixr 5 ◌or_else◌
-abbrev pub ◌or_else◌ : Option ElfRefusal → Option ElfRefusal → Option ElfRefusal
+abbrev pub ◌or_else◌ : {A : Type 0} → Option A → Option A → Option A
 None or_else q = q
 (Some why) or_else q = Some why
 
-abbrev pub when : Bool → ElfRefusal → Option ElfRefusal
+abbrev pub when : {A : Type 0} → Bool → A → Option A
 when b why = if b then Some why else None
 
 -- the checks of the header
@@ -120,6 +120,6 @@ refusal file =
     or_else section_out (length file) (sections_of file) or_else name_out file (sections_of file)
 
 -- a check says no more than whether, and why, it refuses
-abbrev pub Says : Result (Unit {0}) ElfRefusal → Option ElfRefusal → Type 0
+abbrev pub Says : {A : Type 0} → Result (Unit {0}) A → Option A → Type 0
 Says (Ok x) o = o ≡ None
 Says (Err why) o = o ≡ Some why

@@ -3,12 +3,6 @@
 
 mod elf_file;
 mod fields;
-mod first_entries;
-mod first_form;
-mod first_head;
-mod first_parts;
-mod first_read;
-mod first_symbols;
 mod flag_bits;
 mod header;
 mod names;
@@ -22,8 +16,6 @@ mod symbols;
 pub use elf_file::{Elf, SectionList, SegmentList, SymbolList};
 pub use elf_spec::{ByteList, HeapName, Reloc, Section, Segment, Symbol};
 pub use fields::{half, word};
-pub use first_form::First;
-pub use first_read::read_first;
 pub use flag_bits::{FileFlags, SectionFlags, SegmentFlags};
 pub use read_file::read_elf;
 pub use refusals::{ElfRefusal, Table};

@@ -1,7 +1,7 @@
 // Reads a whole file, or finds the first check that it fails.
 
-ghost use Rattle.std.specs.Prelude.{◌<◌, ◌^◌, length, OnOk};
-ghost use Rattle.elf_read.specs.Elf.{Gives};
+ghost use Rattle.std.specs.Prelude.{◌<◌, ◌^◌, length, IfOk, OnOk};
+ghost use Rattle.elf_read.specs.Elf.{Gives, IsReadFrom};
 ghost use Rattle.elf_read.specs.Readable.{ReadableFacts};
 
 use crate::elf_file::Elf;
@@ -22,6 +22,7 @@ pub fn read_elf(alloc: Global, file: &[u8]) -> Result<Elf, ElfRefusal>
     requires { length file.now < 2 ^ 32 }
     ensures gives { Gives result file.now }
     ensures facts { OnOk result (ReadableFacts file.now) }
+    ensures read { IfOk result (λ elf. IsReadFrom elf file.now) }
 {
     check_header(file)?;
     let Ok(segments) = read_segments(

@@ -1,70 +1,53 @@
-// Two files of the first form, byte for byte, and changes to them.
+// What is read of a small program, and the refusals of changes to its file.
 
-use crate::{First, Section, Segment, Symbol, read_elf, read_first};
+ghost use Rattle.std.specs.Prelude.{◌≡◌, [], IfOk};
+
+use crate::{Reloc, Section, Segment, Symbol, read_elf};
+use rv_build::Builder;
 use std::alloc::{AllocError, Global};
 use std::test::Fail;
 
-/// The file header and the program header of a file with this size of headers and code and this
-/// offset of the section headers.
-fn head(alloc: Global, size: u32, table: u32) -> Result<Vec<u8>, AllocError> {
-    let mut bytes = Vec::new(alloc);
-    bytes.extend_from_slice(b"\x7fELF\x01\x01\x01\0\0\0\0\0\0\0\0\0")?;
-    push_words(&mut bytes, &[0xf30002, 1, 0x10100, 52, table, 0])?;
-    push_words(&mut bytes, &[0x200034, 0x280001, 0x40005])?;
-    push_words(&mut bytes, &[1, 0, 0x10000, 0x10000, size, size, 5, 4096])?;
-    push_words(&mut bytes, &[0; 43])?;
-    Ok(bytes)
-}
+/// The code of a program that calls its function `put`, which writes the letter A.
+const PUT: [u32; 12] = [
+    0x0100_00ef,
+    0x0030_0513,
+    0x05d0_0893,
+    0x0000_0073,
+    0x0410_0293,
+    0xfe51_0fa3,
+    0x0010_0513,
+    0xfff1_0593,
+    0x0010_0613,
+    0x0400_0893,
+    0x0000_0073,
+    0x0000_8067,
+];
 
-fn push_words(bytes: &mut Vec<u8>, words: &[u32]) -> Result<(), AllocError> {
+/// A builder that has these words.
+fn begin(alloc: Global, words: &[u32]) -> Result<Builder, AllocError>
+    ensures { IfOk result (λ builder. builder ≡ record { words = words.now; symbols = []; relocs = [] }) }
+{
+    let mut builder = Builder::new(alloc);
     for word in words {
-        bytes.extend_from_slice(&word.to_le_bytes())?;
+        builder.word(*word)?;
     }
-    Ok(())
+    Ok(builder)
 }
 
-/// A program of twelve words with one call of its function `put`.
-pub(crate) fn put_file(alloc: Global) -> Result<Vec<u8>, AllocError> {
-    let mut bytes = head(alloc, 304, 388)?;
-    push_words(
-        &mut bytes,
-        &[0x010000ef, 0x00300513, 0x05d00893, 0x00000073],
-    )?;
-    push_words(
-        &mut bytes,
-        &[0x04100293, 0xfe510fa3, 0x00100513, 0xfff10593],
-    )?;
-    push_words(
-        &mut bytes,
-        &[0x00100613, 0x04000893, 0x00000073, 0x00008067],
-    )?;
-    push_words(&mut bytes, &[0x10100, 0x111, 0])?;
-    push_words(&mut bytes, &[0, 0, 0, 0, 34, 0x10110, 32, 0x10012])?;
-    bytes.extend_from_slice(b"\0.text\0.rela.text\0.symtab\0.strtab\0put\0\0\0")?;
-    push_words(&mut bytes, &[0; 10])?;
-    push_words(&mut bytes, &[1, 1, 6, 0x10100, 256, 48, 0, 0, 4, 0])?;
-    push_words(&mut bytes, &[7, 4, 0, 0, 304, 12, 3, 1, 4, 12])?;
-    push_words(&mut bytes, &[18, 2, 0, 0, 316, 32, 4, 1, 4, 16])?;
-    push_words(&mut bytes, &[26, 3, 0, 0, 348, 38, 0, 0, 1, 0])?;
-    Ok(bytes)
+/// The file of the program, of 588 bytes.
+fn put_file(alloc: Global) -> Result<Vec<u8>, AllocError> {
+    let mut builder = begin(alloc, &PUT)?;
+    builder.symbol(alloc, "put", 0x10110, 0x20)?;
+    builder.reloc(Reloc {
+        place: 0x10100,
+        kind: 17, // R_RISCV_JAL
+        symbol: 1,
+    })?;
+    builder.finish(alloc)
 }
 
-/// A program of three words without a call.
-fn exit_file(alloc: Global) -> Result<Vec<u8>, AllocError> {
-    let mut bytes = head(alloc, 268, 320)?;
-    push_words(&mut bytes, &[0x00000513, 0x05d00893, 0x00000073])?;
-    push_words(&mut bytes, &[0, 0, 0, 0])?;
-    bytes.extend_from_slice(b"\0.text\0.rela.text\0.symtab\0.strtab\0\0\0")?;
-    push_words(&mut bytes, &[0; 10])?;
-    push_words(&mut bytes, &[1, 1, 6, 0x10100, 256, 12, 0, 0, 4, 0])?;
-    push_words(&mut bytes, &[7, 4, 0, 0, 268, 0, 3, 1, 4, 12])?;
-    push_words(&mut bytes, &[18, 2, 0, 0, 268, 16, 4, 1, 4, 16])?;
-    push_words(&mut bytes, &[26, 3, 0, 0, 284, 34, 0, 0, 1, 0])?;
-    Ok(bytes)
-}
-
-/// The program with a call, with some of its bytes changed.
-pub(crate) fn changed(alloc: Global, changes: &[(usize, u8)]) -> Result<Vec<u8>, AllocError> {
+/// The file with some of its bytes changed.
+fn changed(alloc: Global, changes: &[(usize, u8)]) -> Result<Vec<u8>, AllocError> {
     let mut bytes = put_file(alloc)?;
     for (at, byte) in changes {
         if let Some(place) = bytes.get_mut(*at) {
@@ -72,75 +55,6 @@ pub(crate) fn changed(alloc: Global, changes: &[(usize, u8)]) -> Result<Vec<u8>,
         }
     }
     Ok(bytes)
-}
-
-#[test]
-fn reads_files_of_the_first_form(rt: HostRuntime) -> Result<(), Fail> {
-    let put = put_file(rt.alloc())?;
-    assert_eq!(rt; put.len(), 588);
-    assert_eq!(rt;
-        read_first(&put),
-        Some(First {
-            words: 12,
-            entries: 1,
-            symbols: 2
-        })
-    );
-    let exit = exit_file(rt.alloc())?;
-    assert_eq!(rt; exit.len(), 520);
-    assert_eq!(rt;
-        read_first(&exit),
-        Some(First {
-            words: 3,
-            entries: 0,
-            symbols: 1
-        })
-    );
-    Ok(())
-}
-
-#[test]
-fn refuses_files_of_another_form(rt: HostRuntime) -> Result<(), Fail> {
-    let others: [&[(usize, u8)]; 14] = [
-        &[(36, 1)], // a flag
-        &[(68, 0x2c), (72, 0x2c)], // eleven words by the segment, twelve by the section
-        &[(69, 1 + 6), (73, 1 + 6)], // more words than the file has
-        &[(32, 0x85)], // section headers out of the file
-        &[(388 + 40 + 8, 2)], // code that is not executable
-        &[(388 + 80 + 20, 0)], // a gap behind the code
-        &[(388 + 120 + 16, 0x3b)], // symbols inside the entries
-        &[(388 + 160 + 20, 0)], // no byte of strings
-        &[(388 + 160 + 20, 41)], // strings that reach into the section headers
-        &[(308, 18)], // an entry of another kind
-        &[(309, 2)], // an entry without its symbol
-        &[(332, 38)], // a name outside of the strings
-        &[(385, b'x')], // a name without an end
-        &[
-            (382, b'f'),
-            (383, b'r'),
-            (384, b'e'),
-            (385, b'e'),
-            (568, 39),
-        ], // a heap function
-    ];
-    for changes in others {
-        let bytes = changed(rt.alloc(), changes)?;
-        assert_eq!(rt; bytes.len(), 588);
-        assert_eq!(rt; read_first(&bytes), None);
-    }
-    let fred = changed(
-        rt.alloc(),
-        &[
-            (382, b'f'),
-            (383, b'r'),
-            (384, b'e'),
-            (385, b'd'),
-            (568, 39),
-        ],
-    )?;
-    assert_eq!(rt; fred.len(), 588);
-    assert!(rt; read_first(&fred).is_some());
-    Ok(())
 }
 
 /// The text of the refusal of a short file, or `read`.

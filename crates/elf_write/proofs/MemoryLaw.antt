@@ -74,7 +74,7 @@ zero_read n i = at (nat_lt i n) refl
         get_or_past (replicate n 0) i 0 l
 
 -- a byte of a segment's range stands in the file, or is zero fill
-length-range : (f : List ℕ) (h : Segment) → IsSegmentInside (length f) h → length (range_of f h).bytes ≡ h.mem_size
+pub length-range : (f : List ℕ) (h : Segment) → IsSegmentInside (length f) h → length (range_of f h).bytes ≡ h.mem_size
 length-range f h inside =
     let fits : h.file_size ≤ h.mem_size = inside.fits in
     let file : h.offset + h.file_size ≤ length f = inside.file in

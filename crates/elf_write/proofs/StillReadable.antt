@@ -1,5 +1,5 @@
 -- A new file of a readable file is readable where its tables are kept and its program headers pass.
-use Rattle.std.proofs.Common.{◌≡◌, ℕ, zero, suc, ◌+◌, ◌-◌, ◌*◌, ◌/◌, ◌<◌, ◌≤◌, ◌==◌, Bool, true, false, not, ◌&&◌, ◌||◌, if◌then◌else◌, List, [], ◌∷◌, ◌++◌, length, get_or, take, nat_eq, nat_lt, refl, sym, ap, ◌∙◌, subst, arith, inl, inr, Option, Some, None}
+use Rattle.std.proofs.Common.{◌≡◌, ℕ, zero, suc, ◌+◌, ◌-◌, ◌*◌, ◌/◌, ◌<◌, ◌≤◌, ◌==◌, Bool, true, false, not, ◌&&◌, ◌||◌, if◌then◌else◌, List, [], ◌∷◌, ◌++◌, length, take, nat_eq, nat_lt, refl, sym, ap, ◌∙◌, subst, arith, inl, inr, Option, Some, None}
 use Rattle.std.specs.Prelude.{find, bytes_eq, bit_and}
 use Rattle.std.specs.List.{All, list_any}
 use Rattle.std.specs.Option.{option_map, option_or}
@@ -10,7 +10,7 @@ use Rattle.elf_spec.specs.declared.Segment.{Segment}
 use Rattle.elf_spec.specs.declared.Section.{Section}
 use Rattle.elf_spec.specs.Fields.{byte_at, word_at}
 use Rattle.elf_spec.specs.NewFile.{contents, table_end, up16, up4096}
-use Rattle.elf_spec.specs.Records.{e_flags, e_machine, e_phentsize, e_phnum, e_phoff, e_shentsize, e_shnum, e_shoff, e_type, e_version, section_at, sections_of, segments_of}
+use Rattle.elf_spec.specs.Records.{e_flags, e_machine, e_phentsize, e_phnum, e_phoff, e_shentsize, e_shnum, e_shoff, e_type, e_version, sections_of, segments_of}
 use Rattle.elf_spec.specs.Relocations.{is_at}
 use Rattle.elf_spec.specs.Tables.{is_symtab, strings_of, symtab_index}
 use Rattle.elf_read.specs.declared.refusals.ElfRefusal.{ElfRefusal}
@@ -18,8 +18,7 @@ use Rattle.elf_read.specs.declared.refusals.ElfRefusal.TheVariants.{NotElf, Wron
 use Rattle.elf_read.specs.declared.refusals.Table.TheVariants.{Program, Section as SectionTable}
 use Rattle.elf_read.specs.Checks.{is_bad_table, is_name_out, is_program_table_out, is_refused_kind, is_section_table_out, is_table_out, leaves_file}
 use Rattle.elf_read.specs.Elf.{IsReadable}
-use Rattle.elf_read.specs.Symbols.{IsTables}
-use Rattle.elf_read.proofs.TablesInside.{none_found, tables_are}
+use Rattle.elf_read.specs.Readable.{ReadableFacts}
 use Rattle.elf_read.specs.Refusals.{◌or_else◌, first_below, header_refusal, kind_from, name_out, name_out_in, not_elf, bad_flags, not_exec, not_riscv, section_from, section_out, section_table_out, segment_kind, segment_out, segment_overlap, too_large, too_many, when, wrong_class, wrong_order, wrong_version, program_table_out}
 use Rattle.elf_write.specs.Ends.{new_length}
 use Rattle.elf_write.specs.Kept.{AllTables, AreFieldsAlone, AreTablesUnpatched, DoHeadersPass}
@@ -146,38 +145,12 @@ below_same p q (suc n) h =
 abbrev IsKeptPart : List ℕ → List Patch → ℕ → ℕ → Type 0
 IsKeptPart file patches at n = (k : ℕ) → k < n → IsKept (length file) patches (at + k)
 
-some_is : {A : Type 0} (x y : A) (o : Option A) → o ≡ Some x → o ≡ Some y → x ≡ y
-some_is x y o h g = cc
-
 -- the tables lie in the file
-symbols_inside : (old : List ℕ) → section_out (length old) (sections_of old) ≡ None → (o : Option ℕ) → symtab_index (sections_of old) ≡ o
-    → (t : Section) → find is_symtab (sections_of old) ≡ Some t → (k : ℕ) → k < t.size → t.offset + k < length old
-symbols_inside old h None e t f k l = absurd (let q : None ≡ Some t = sym (none_found (sections_of old) e) ∙ f in cc)
-symbols_inside old h (Some i) e x f k l =
-    let d : Section = section_at old 0 in
-    let tables : IsTables (length old) (sections_of old) _ = tables_are (length old) (sections_of old) i d d h e in
-    let same : get_or (sections_of old) i d ≡ x = some_is (get_or (sections_of old) i d) x (find is_symtab (sections_of old)) tables.symbols f in
-    let w : x.offset + x.size ≤ length old = subst (λ (y : Section). y.offset + y.size ≤ length old) same tables.symbols_inside in
-    omega arith
-
-strings_inside : (old : List ℕ) → section_out (length old) (sections_of old) ≡ None → (o : Option ℕ) → symtab_index (sections_of old) ≡ o
-    → (s : Section) → strings_of (sections_of old) (find is_symtab (sections_of old)) ≡ Some s → (k : ℕ) → k < s.size → s.offset + k < length old
-strings_inside old h None e s f k l = absurd (let q : strings_of (sections_of old) None ≡ Some s = subst (λ o. strings_of (sections_of old) o ≡ Some s) (none_found (sections_of old) e) f in cc)
-strings_inside old h (Some i) e x f k l =
-    let d : Section = section_at old 0 in
-    let t : Section = get_or (sections_of old) i d in
-    let tables : IsTables (length old) (sections_of old) _ = tables_are (length old) (sections_of old) i d d h e in
-    let g : strings_of (sections_of old) (Some t) ≡ Some x = subst (λ o. strings_of (sections_of old) o ≡ Some x) tables.symbols f in
-    let same : get_or (sections_of old) t.link d ≡ x = some_is (get_or (sections_of old) t.link d) x (strings_of (sections_of old) (Some t)) tables.strings g in
-    let w : x.offset + x.size ≤ length old = subst (λ (y : Section). y.offset + y.size ≤ length old) same tables.strings_inside in
-    omega arith
-
-tables_inside : (old : List ℕ) → section_out (length old) (sections_of old) ≡ None → (0 < e_shnum old → e_shoff old + 40 * e_shnum old ≤ length old)
-    → AllTables (λ at n. (k : ℕ) → k < n → at + k < length old) old
-tables_inside old h table = record {
-  sections = λ k l. let w : e_shoff old + 40 * e_shnum old ≤ length old = table (omega arith) in omega arith;
-  symbols = λ t e. symbols_inside old h (symtab_index (sections_of old)) refl t e;
-  strings = λ s e. strings_inside old h (symtab_index (sections_of old)) refl s e;
+tables_inside : (old : List ℕ) → ReadableFacts old → AllTables (λ at n. (k : ℕ) → k < n → at + k < length old) old
+tables_inside old facts = record {
+  sections = λ k l. let w : e_shoff old + 40 * e_shnum old ≤ length old = facts.section_table (omega arith) in omega arith;
+  symbols = λ t e k l. let w : t.offset + t.size ≤ length old = facts.symbols t e in omega arith;
+  strings = λ s e k l. let w : s.offset + s.size ≤ length old = facts.strings s e in omega arith;
 }
 
 tables_kept : (old : List ℕ) (ps : List Patch) → AllTables (λ at n. (k : ℕ) → k < n → at + k < length old) old → AreTablesUnpatched old ps → AreFieldsAlone old → AllTables (IsKeptPart old ps) old
@@ -213,20 +186,19 @@ names_kept : (old : List ℕ) (ps : List Patch) (ss : List NewSegment) (new : Li
 unfolding name_out
 names_kept old ps ss new l kept h = names_new old ps ss new l (find is_symtab (sections_of old)) (strings_of (sections_of old) (find is_symtab (sections_of old))) kept.symbols kept.strings h
 
-pub readable_new : (old : List ℕ) (ps : List Patch) (ss : List NewSegment) (new : List ℕ) → NewLayout old ps ss new → IsReadable old → 52 ≤ length old
-    → All (λ p. 52 ≤ p.offset) ps → e_phnum old + length ss ≤ 100 → (0 < e_shnum old → e_shoff old + 40 * e_shnum old ≤ length old)
-    → AreTablesUnpatched old ps → AreFieldsAlone old → DoHeadersPass old ss → IsReadable new
+pub readable_new : (old : List ℕ) (ps : List Patch) (ss : List NewSegment) (new : List ℕ) → NewLayout old ps ss new → IsReadable old → ReadableFacts old
+    → All (λ p. 52 ≤ p.offset) ps → e_phnum old + length ss ≤ 100 → AreTablesUnpatched old ps → AreFieldsAlone old → DoHeadersPass old ss → IsReadable new
 unfolding segment_kind section_out
-readable_new old ps ss new l h long w few table beside alone pass =
+readable_new old ps ss new l h facts w few beside alone pass =
     let (a, h1) = parts_none (header_refusal old) _ h in
     let (b, h2) = parts_none (segment_kind (segments_of old)) _ h1 in
     let (c, h3) = parts_none (segment_out (length old) (segments_of old)) _ h2 in
     let (d, h4) = parts_none (segment_overlap (segments_of old)) _ h3 in
     let (e, h5) = parts_none (too_large (segments_of old)) _ h4 in
     let (f, g) = parts_none (section_out (length old) (sections_of old)) (name_out old (sections_of old)) h5 in
-    let kept : AllTables (IsKeptPart old ps) old = tables_kept old ps (tables_inside old f table) beside alone in
+    let kept : AllTables (IsKeptPart old ps) old = tables_kept old ps (tables_inside old facts) beside alone in
     let same : sections_of new ≡ sections_of old = l.sections w kept.sections in
-    both_none (header_refusal new) _ (header_new old ps ss new l a long w pass.some few)
+    both_none (header_refusal new) _ (header_new old ps ss new l a facts.long w pass.some few)
     (both_none (segment_kind (segments_of new)) _ (ap (kind_from 0) l.headers ∙ kinds_join 0 (segments_of old) (added_headers (table_end old ss) ss) b (kinds_added ss (table_end old ss)))
     (both_none (segment_out (length new) (segments_of new)) _ (ap (λ n. segment_out n (segments_of new)) l.length_is ∙ (ap (segment_out (new_length old ss)) l.headers ∙ pass.inside))
     (both_none (segment_overlap (segments_of new)) _ (ap segment_overlap l.headers ∙ pass.apart)

@@ -1,5 +1,5 @@
 -- When a new file is read again: its tables are kept, and its program headers pass their checks.
-use Rattle.std.specs.Prelude.{◌≡◌, ℕ, ◌+◌, ◌*◌, ◌<◌, ◌≤◌, List, [], ◌∷◌, length, sum_by, ◌++◌, find, All, Some, None, Ok}
+use Rattle.std.specs.Prelude.{◌≡◌, ℕ, ◌+◌, ◌*◌, ◌<◌, ◌≤◌, List, [], ◌∷◌, length, sum_by, ◌++◌, find, All, Some, None}
 use Rattle.elf_spec.specs.declared.Patch.{Patch}
 use Rattle.elf_spec.specs.declared.NewSegment.{NewSegment}
 use Rattle.elf_spec.specs.declared.Segment.{Segment}
@@ -7,17 +7,9 @@ use Rattle.elf_spec.specs.declared.Section.{Section}
 use Rattle.elf_spec.specs.Memory.{image_end}
 use Rattle.elf_spec.specs.Records.{e_phnum, e_shnum, e_shoff, sections_of, segments_of}
 use Rattle.elf_spec.specs.Tables.{is_symtab, strings_of}
-use Rattle.elf_read.specs.declared.elf_file.Elf.{Elf}
-use Rattle.elf_read.specs.Elf.{Gives}
-use Rattle.elf_read.specs.Readable.{ReadableFacts}
 use Rattle.elf_read.specs.Refusals.{memory_size, segment_out, segment_overlap, too_large}
 use Rattle.elf_write.specs.Ends.{new_length}
 use Rattle.elf_write.specs.Layout.{IsBeside, headers_added}
-
--- the fields, headers and symbols are those that the reader finds in the file
-pub record WasRead (elf : Elf) (file : List ℕ) : Type 0 where
-  pub gives : Gives (Ok elf) file
-  pub facts : ReadableFacts file
 
 -- the tables that are read of a file, each by its offset and size, have a property: the section
 -- headers, the symbols and their strings

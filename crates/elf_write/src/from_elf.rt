@@ -2,10 +2,10 @@
 ghost use Rattle.std.specs.Prelude.{◌≡◌, ◌+◌, ◌≤◌, length, All, IfOk};
 ghost use Rattle.elf_spec.specs.NewFile.{new_file};
 ghost use Rattle.elf_spec.specs.Records.{e_phnum};
-ghost use Rattle.elf_read.specs.Elf.{IsReadable};
+ghost use Rattle.elf_read.specs.Elf.{IsReadFrom, IsReadable};
 ghost use Rattle.elf_write.specs.Inputs.{IsInside, IsSmall};
-ghost use Rattle.elf_write.specs.Kept.{AreAddedAbove, AreFieldsAlone, AreTablesUnpatched, DoHeadersPass, WasRead};
-ghost use Rattle.elf_write.specs.Layout.{AreApart};
+ghost use Rattle.elf_write.specs.Kept.{AreAddedAbove, AreFieldsAlone, AreTablesUnpatched, DoHeadersPass};
+ghost use Rattle.elf_write.specs.Layout.{AreApart, NewLayout};
 ghost use Rattle.elf_write.specs.NewMemory.{NewMemory};
 
 use crate::with_new_segments;
@@ -25,7 +25,7 @@ pub fn with_segments(
     patches: &[Patch],
     segments: &[NewSegment],
 ) -> Result<Vec<u8>, AllocError>
-    requires read { WasRead elf.now file.now }
+    requires read { IsReadFrom elf.now file.now }
     requires fits_32_mib { length file.now ≤ 33554432 }
     requires has_few_headers { e_phnum file.now ≤ 64 }
     requires patches_inside { All (IsInside (length file.now)) patches.now }
@@ -33,6 +33,8 @@ pub fn with_segments(
     requires few_segments { length segments.now ≤ 2 }
     requires small_segments { All IsSmall segments.now }
     ensures is { IfOk result (λ new. new.items ≡ new_file file.now patches.now segments.now) }
+    ensures fits_33_mib { IfOk result (λ new. length new.items ≤ 34603008) }
+    ensures layout { IfOk result (λ new. NewLayout file.now patches.now segments.now new.items) }
     ensures headers { AreAddedAbove file.now segments.now → DoHeadersPass file.now segments.now }
     ensures readable { IfOk result (λ new. AreTablesUnpatched file.now patches.now → AreFieldsAlone file.now → DoHeadersPass file.now segments.now → IsReadable new.items) }
     ensures memory { IfOk result (λ new. NewMemory file.now patches.now segments.now new.items) }

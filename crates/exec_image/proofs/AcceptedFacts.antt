@@ -1,35 +1,32 @@
 -- What the checks keep of an accepted file.
-use Rattle.std.proofs.Common.{◌≡◌, ℕ, ◌+◌, ◌-◌, ◌%◌, ◌≤◌, ◌==◌, ◌&&◌, not, Bool, true, false, List, get_or, nat_eq, nat_le, nat_lt, refl, sym, ◌∙◌, arith, Some, None, is_some}
-use Rattle.std.specs.List.{All, list_any}
+use Rattle.std.proofs.Common.{◌≡◌, ℕ, ◌+◌, ◌-◌, ◌%◌, ◌<◌, ◌≤◌, ◌==◌, ◌&&◌, not, Bool, true, false, List, get_or, length, nat_eq, nat_le, nat_lt, refl, sym, subst, arith, Option, Some, None, is_some, option_map, if◌then◌else◌}
+use Rattle.std.specs.List.{All, find, list_any}
 use Rattle.std.proofs.lemmas.Bool.Decides.{nat_tests}
 use Rattle.std.proofs.lemmas.List.Folds.{Any-from_list_any}
 use Rattle.elf_spec.specs.declared.HeapName.{HeapName}
 use Rattle.elf_spec.specs.declared.HeapName.TheVariants.{Malloc, Calloc, Realloc, Free}
+use Rattle.elf_spec.specs.declared.Section.{Section}
 use Rattle.elf_spec.specs.declared.Segment.{Segment}
 use Rattle.elf_spec.specs.Code.{code_place, code_word, holds_word, is_executable}
 use Rattle.elf_spec.specs.Fields.{is_set}
 use Rattle.elf_spec.specs.Heap.{heap_entry}
 use Rattle.elf_spec.specs.Memory.{image_end, is_loaded}
 use Rattle.elf_spec.specs.Records.{e_entry, e_phnum, sections_of, segments_of}
-use Rattle.elf_read.specs.declared.elf_file.Elf.{Elf}
 use Rattle.elf_read.specs.Checks.{is_shared}
-use Rattle.elf_read.specs.Refusals.{first_below, memory_size}
+use Rattle.elf_read.specs.Readable.{IsInside, IsLoadedInside, ReadableFacts}
+use Rattle.elf_read.specs.Refusals.{first_below, memory_size, when}
+use Rattle.elf_read.proofs.ReadableFacts.{readable_facts}
 use Rattle.elf_read.proofs.Below.{below_none}
-use Rattle.reloc_table.specs.ReadFrom.{IsReadFrom}
-use Rattle.reloc_table.specs.Refusals.{when}
-use Rattle.exec_image.specs.declared.parts.Part.{Part}
 use Rattle.exec_image.specs.declared.refusals.FileRefusal.TheVariants.{AlreadyRewritten, EntryOut, HeapEntrySmall, ImageTooLarge, TpUsed}
 use Rattle.exec_image.specs.declared.refusals.ImagePart.TheVariants.{Headers, Bytes}
-use Rattle.exec_image.specs.Accepted.{AcceptedFacts, HasTwoWords, IsCodeAt}
+use Rattle.exec_image.specs.Accepted.{AcceptedFacts, HasTwoWords, IsAlone, IsCodeAt}
 use Rattle.exec_image.specs.Checks.{descriptions, has_mark, is_place_of, uses_tp_at}
-use Rattle.exec_image.specs.CodeParts.{IsCode}
 use Rattle.exec_image.specs.HeapChecks.{is_small, lacks_words}
 use Rattle.exec_image.specs.Images.{IsAccepted}
-use Rattle.exec_image.specs.Parts.{is_meeting}
-use Rattle.exec_image.specs.Refusals.{already_rewritten, entry_out, heap_entry_small, image_too_large, tp_used}
-use Rattle.exec_image.proofs.CodePlaces.{IsCodePlace, IsPlaced, all_placed, code_no, code_odd, in_parts, place_of}
+use Rattle.exec_image.specs.Refusals.{already_rewritten, entry_out, exec_outside, heap_entry_small, image_too_large, tp_used}
+use Rattle.exec_image.proofs.CodePlaces.{IsPlaced, all_placed, all_words}
 use Rattle.exec_image.proofs.Finding.{found_in, found_passes, found_some}
-use Rattle.exec_image.proofs.ImageEnd.{use_below}
+use Rattle.exec_image.proofs.ImageEnd.{ends_below, use_some}
 use Rattle.exec_image.proofs.Passed.{Passed, accepted_end, both_false, no_inner, none_both, not_when, passed}
 use Rattle.exec_image.proofs.PlanFits.{none_of_any}
 
@@ -62,38 +59,44 @@ placed true true v f sa ss so go a h i j =
 placed true false v f sa ss so go a h i j = absurd (cc)
 placed false x v f sa ss so go a h i j = absurd (cc)
 
-code_in : (file : List ℕ) (segments : List Segment) (code : List Part) (a place : ℕ) → IsCode file segments code → a % 4 ≡ 0
-    → list_any (is_meeting a (a + 1)) code ≡ true → code_place file a ≡ Some place → IsCodeAt file a place
-code_in file segments code a place h m e r =
-    let e' : list_any (λ s. is_executable s && holds_word a s) (sections_of file) ≡ true = sym (in_parts file segments code a h m) ∙ e in
-    let (s, f) = found_some (λ s. is_executable s && holds_word a s) (sections_of file) e' in
+-- what a segment of code and its place in the file say of a word of an executable section
+word_there : (file : List ℕ) (a : ℕ) (s : Section) → ReadableFacts file → exec_outside file ≡ None → a % 4 ≡ 0
+    → find (λ s. is_executable s && holds_word a s) (sections_of file) ≡ Some s → IsCodeAt file a (s.offset + (a - s.addr))
+word_there file a s r h m f =
     let (x, y) = split (is_executable s) (holds_word a s) (found_passes (λ s. is_executable s && holds_word a s) (sections_of file) s f) in
-    let (p, q) = found_in (λ s. is_executable s && holds_word a s) (IsPlaced file) (sections_of file) s f (all_placed file h.inside) x in
+    let (p, q) = found_in (λ s. is_executable s && holds_word a s) (IsPlaced file) (sections_of file) s f (all_placed file h) x in
     let (g, t) = found_some (is_place_of s) (segments_of file) p in
-    let k : IsCodePlace file segments a (s.offset + (a - s.addr)) = place_of file segments code a h m s f g t in
-    let z : Some (s.offset + (a - s.addr)) ≡ Some place = sym k.place ∙ r in
-    let w : s.offset + (a - s.addr) ≡ place = cc in
     let (lo, hi, sl, sh) = word_bounds s.addr s.size s.offset a y in
-    let (j, b, n, o, u) = Any-from_list_any (is_place_of s) (segments_of file) p in
-    let (c1, c2, c3, c4, c5) = placed (is_loaded b) (is_set 1 b.flags) b.vaddr b.file_size s.addr s.size s.offset b.offset a u sl sh in
+    let (l, k, v, u, o) = placed (is_loaded g) (is_set 1 g.flags) g.vaddr g.file_size s.addr s.size s.offset g.offset a (found_passes (is_place_of s) (segments_of file) g t) sl sh in
+    let i : IsInside (length file) g = found_in (is_place_of s) (IsLoadedInside (length file)) (segments_of file) g t r.segments l in
+    let (j, b, n, e, w) = Any-from_list_any (is_place_of s) (segments_of file) p in
+    let (c1, c2, c3, c4, c5) = placed (is_loaded b) (is_set 1 b.flags) b.vaddr b.file_size s.addr s.size s.offset b.offset a w sl sh in
     record {
       aligned = m;
-      inside = rw (sym w) k.inside;
-      loaded = (j, b, n, o, (c1, c2, c3, c4, rw (sym w) c5));
+      inside = omega (arith, v, u, o, i.file);
+      loaded = (j, b, n, e, (c1, c2, c3, c4, c5));
       plain = λ i d l.
-          rw (sym w) (part_alone s.offset s.size (s.offset + (a - s.addr)) (get_or (descriptions file) i d).0 (get_or (descriptions file) i d).1
-          (none_of_any (λ d. is_shared s.offset s.size d.0 d.1) (descriptions file) q i d l) lo hi);
+          part_alone s.offset s.size (s.offset + (a - s.addr)) (get_or (descriptions file) i d).0 (get_or (descriptions file) i d).1
+          (none_of_any (λ d. is_shared s.offset s.size d.0 d.1) (descriptions file) q i d l) lo hi;
     }
 
-code_at : (file : List ℕ) (segments : List Segment) (code : List Part) → IsCode file segments code → (a place : ℕ) → code_place file a ≡ Some place → IsCodeAt file a place
-code_at file segments code h a place r = decide (a % 4 == 0) (list_any (is_meeting a (a + 1)) code) refl refl
+pub code_at : (file : List ℕ) (a place : ℕ) → ReadableFacts file → exec_outside file ≡ None → code_place file a ≡ Some place → IsCodeAt file a place
+unfolding code_place
+code_at file a place r h e = by_place (a % 4 == 0) (find (λ s. is_executable s && holds_word a s) (sections_of file)) refl refl e
   where
-    decide : (b c : Bool) → (a % 4 == 0) ≡ b → list_any (is_meeting a (a + 1)) code ≡ c → IsCodeAt file a place
-    decide true true e f = let m : a % 4 ≡ 0 = grind (arith, nat_tests) in code_in file segments code a place h m f r
-    decide true false e f =
-        let m : a % 4 ≡ 0 = grind (arith, nat_tests) in
-        absurd (let q : None ≡ Some place = sym (code_no file segments code a h m f) ∙ r in cc)
-    decide false c e f = absurd (let q : None ≡ Some place = sym (code_odd file a e) ∙ r in cc)
+    by_place : (b : Bool) (o : Option Section) → (a % 4 == 0) ≡ b → find (λ s. is_executable s && holds_word a s) (sections_of file) ≡ o
+        → (if b then option_map (λ s. s.offset + (a - s.addr)) o else None) ≡ Some place → IsCodeAt file a place
+    by_place true (Some s) m f e =
+        let w : s.offset + (a - s.addr) ≡ place = cc in
+        let z : a % 4 ≡ 0 = grind (arith, nat_tests) in
+        subst (IsCodeAt file a) w (word_there file a s r h z f)
+    by_place true None m f e = absurd (cc)
+    by_place false o m f e = absurd (cc)
+
+-- no byte of an executable section describes the file
+section_alone : (file : List ℕ) → exec_outside file ≡ None → All (IsAlone file) (sections_of file)
+section_alone file h = λ k d l e.
+    none_of_any (λ x. is_shared (get_or (sections_of file) k d).offset (get_or (sections_of file) k d).size x.0 x.1) (descriptions file) (all_placed file h k d l e).1
 
 two_words : (file : List ℕ) (name : HeapName) → is_small file name ≡ false → HasTwoWords file name
 unfolding is_small
@@ -119,16 +122,29 @@ heap_words file h name =
     each Realloc a b c d = two_words file Realloc (not_when (is_small file Realloc) (HeapEntrySmall Realloc) c)
     each Free a b c d = two_words file Free (not_when (is_small file Free) (HeapEntrySmall Free) d)
 
-no_use : (file : List ℕ) (segments : List Segment) (code : List Part) → IsCode file segments code → tp_used file ≡ None → (a : ℕ) → uses_tp_at file a ≡ false
+-- a code word is below the image's end
+code_below : (file : List ℕ) (a place : ℕ) → ReadableFacts file → IsCodeAt file a place → a < image_end (segments_of file)
+code_below file a place r c =
+    let (j, g, n, e, (l, x, v, u, o)) = c.loaded in
+    let end : g.vaddr + g.mem_size ≤ image_end (segments_of file) = subst (λ (g : Segment). g.vaddr + g.mem_size ≤ image_end (segments_of file)) e
+    (ends_below (segments_of file) j g n (subst (λ (g : Segment). is_loaded g ≡ true) (sym e) l)) in
+    let fits : g.file_size ≤ g.mem_size = (subst (IsLoadedInside (length file)) e (r.segments j g n) l).fits in
+    omega (arith, end, fits, u)
+
+no_use : (file : List ℕ) → ReadableFacts file → exec_outside file ≡ None → tp_used file ≡ None → (a : ℕ) → uses_tp_at file a ≡ false
 unfolding tp_used
-no_use file segments code h n a = decide (uses_tp_at file a) refl
+no_use file r h n a = by_use (uses_tp_at file a) refl
   where
     none : first_below (uses_tp_at file) (image_end (segments_of file)) ≡ None
     none = no_inner TpUsed (first_below (uses_tp_at file) (image_end (segments_of file))) n
 
-    decide : (b : Bool) → uses_tp_at file a ≡ b → uses_tp_at file a ≡ false
-    decide false e = e
-    decide true e = below_none (uses_tp_at file) (image_end (segments_of file)) none a (use_below file segments code a h e)
+    by_use : (b : Bool) → uses_tp_at file a ≡ b → uses_tp_at file a ≡ false
+    by_use false e = e
+    by_use true e = by_place (code_place file a) refl
+      where
+        by_place : (o : Option ℕ) → code_place file a ≡ o → uses_tp_at file a ≡ false
+        by_place (Some place) q = below_none (uses_tp_at file) (image_end (segments_of file)) none a (code_below file a place r (code_at file a place r h q))
+        by_place None q = absurd (let t : is_some (code_place file a) ≡ true = use_some file a e in let f : false ≡ true = rw q at t in cc)
 
 record HasRoom (file : List ℕ) : Type 0 where
   few : e_phnum file ≤ 64
@@ -154,20 +170,22 @@ no_mark : (file : List ℕ) → already_rewritten file ≡ None → All (λ g. h
 unfolding already_rewritten
 no_mark file h = none_of_any (has_mark file) (segments_of file) (not_when (list_any (has_mark file) (segments_of file)) AlreadyRewritten h)
 
-pub accepted_facts : (elf : Elf) (file : List ℕ) (segments : List Segment) (code : List Part) → IsAccepted file → IsReadFrom elf file → IsCode file segments code
-    → AcceptedFacts file
-accepted_facts elf file segments code h r c =
+pub accepted_facts : (file : List ℕ) → IsAccepted file → AcceptedFacts file
+accepted_facts file h =
     let p : Passed file = passed file h in
     let q : HasRoom file = room file p.room in
+    let r : ReadableFacts file = readable_facts file p.headers in
     record {
       readable = p.headers;
-      facts = r.facts;
-      code = code_at file segments code c;
+      facts = r;
+      words = all_words (sections_of file) p.words;
+      code = λ a place e. code_at file a place r p.inside e;
+      sections = section_alone file p.inside;
       entry = entry_in file p.entry;
       heap = heap_words file p.large;
       unmarked = no_mark file p.unmarked;
       few = q.few;
       memory = q.memory;
       end = accepted_end file h;
-      no_tp = no_use file segments code c p.no_tp;
+      no_tp = no_use file r p.inside p.no_tp;
     }

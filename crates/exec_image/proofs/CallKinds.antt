@@ -4,7 +4,8 @@ use Rattle.std.specs.List.{list_any}
 use Rattle.std.proofs.lemmas.Bool.Decides.{nat_tests}
 use Rattle.elf_spec.specs.declared.Reloc.{Reloc}
 use Rattle.elf_spec.specs.Relocations.{has_reloc}
-use Rattle.exec_image.specs.Calls.{is_kind}
+use Rattle.exec_image.specs.declared.calls.Calls.{Calls}
+use Rattle.exec_image.specs.Calls.{AreCalls, is_kind}
 use Rattle.exec_image.proofs.Finding.{any_same}
 
 any_or : {X : Type 0} (p q : X → Bool) (xs : List X) → list_any (λ x. p x || q x) xs ≡ (list_any p xs || list_any q xs)
@@ -50,3 +51,21 @@ three relocs a =
     (λ k d l. let r : Reloc = get_or relocs k d in three_kinds r.kind (r.place == a))
     ∙ any_or (λ r. (r.kind == 17) && (r.place == a)) (λ r. ((r.kind == 18) && (r.place == a)) || ((r.kind == 19) && (r.place == a))) relocs
     ∙ ap (λ b. has_reloc relocs 17 a || b) (any_or (λ r. (r.kind == 18) && (r.place == a)) (λ r. (r.kind == 19) && (r.place == a)) relocs)
+
+-- lists on which each test says the same have the same calls
+pub calls_same : (xs ys : List Reloc) (calls : Calls) → ((p : Reloc → Bool) → list_any p xs ≡ list_any p ys) → AreCalls xs calls → AreCalls ys calls
+calls_same xs ys calls h c =
+    record {
+      jals_rise = c.jals_rise;
+      jals = λ a. c.jals a ∙ kind 17 a;
+      pairs_rise = c.pairs_rise;
+      pairs = λ a. c.pairs a ∙ ap (λ b. b || has_reloc xs 19 a) (kind 18 a) ∙ ap (λ b. has_reloc ys 18 a || b) (kind 19 a);
+      all_rise = c.all_rise;
+      all = λ a.
+          c.all a ∙ ap (λ b. b || (has_reloc xs 18 a || has_reloc xs 19 a)) (kind 17 a)
+          ∙ ap (λ b. has_reloc ys 17 a || (b || has_reloc xs 19 a)) (kind 18 a)
+          ∙ ap (λ b. has_reloc ys 17 a || (has_reloc ys 18 a || b)) (kind 19 a);
+    }
+  where
+    kind : (k a : ℕ) → has_reloc xs k a ≡ has_reloc ys k a
+    kind k a = h (λ r. (r.kind == k) && (r.place == a))

@@ -1,5 +1,6 @@
 -- Where a code word stands in the file: what is looked up is what the sections say.
-use Rattle.std.proofs.Common.{◌≡◌, ℕ, ◌+◌, ◌-◌, ◌%◌, ◌<◌, ◌≤◌, ◌==◌, ◌&&◌, ◌||◌, not, Bool, true, false, List, get_or, length, nat_eq, nat_le, nat_lt, refl, sym, ap, ◌∙◌, arith, Option, Some, None, is_some, option_map}
+use Rattle.std.proofs.Common.{◌≡◌, ℕ, ◌+◌, ◌-◌, ◌%◌, ◌<◌, ◌≤◌, ◌==◌, ◌&&◌, ◌||◌, not, Bool, true, false, List, get_or, length, nat_eq, nat_le, nat_lt, refl, sym, ap, ◌∙◌, arith, Option, Some, None, is_some, option_map, rules}
+use Rattle.std.specs.Option.{IfSome}
 use Rattle.std.specs.List.{All, find, list_any, position}
 use Rattle.std.proofs.lemmas.Bool.Decides.{nat_tests}
 use Rattle.elf_spec.specs.declared.Section.{Section}
@@ -14,6 +15,7 @@ use Rattle.elf_read.proofs.Finds.{none_passes}
 use Rattle.exec_image.specs.declared.parts.Part.{Part}
 use Rattle.exec_image.specs.declared.refusals.FileRefusal.{FileRefusal}
 use Rattle.exec_image.specs.declared.refusals.FileRefusal.TheVariants.{ExecNotWords, ExecOutside}
+use Rattle.exec_image.specs.Accepted.{IsWords}
 use Rattle.exec_image.specs.Checks.{is_in_descriptions, is_not_words, is_place_of}
 use Rattle.exec_image.specs.CodeParts.{IsCode, code_parts, holds_in_file, place_in}
 use Rattle.exec_image.specs.Parts.{is_meeting}
@@ -28,9 +30,6 @@ no_place f p xs h = none_passes p xs (none_of (position p xs) h)
     none_of : (o : Option ℕ) → option_map f o ≡ None → o ≡ None
     none_of None e = refl
     none_of (Some i) e = absurd (cc)
-
-abbrev pub IsWords : Section → Type 0
-IsWords s = is_executable s ≡ true → (s.addr % 4 ≡ 0) × (s.size % 4 ≡ 0)
 
 words_of : (b : Bool) (m n : ℕ) → (b && (not (nat_eq m 0) || not (nat_eq n 0))) ≡ false → b ≡ true → (m ≡ 0) × (n ≡ 0)
 words_of true m n h e = (grind (arith, nat_tests), grind (arith, nat_tests))
@@ -228,6 +227,11 @@ place_inside file segments code a at h e =
     let f : Some at' ≡ Some at = sym k.place ∙ e in
     let g : at' ≡ at = cc in
     (rw (sym g) k.inside, k.low)
+
+pub place_some : (file : List ℕ) (segments : List Segment) (code : List Part) (a : ℕ) (o : Option ℕ) → IsCode file segments code → o ≡ code_place file a
+    → IfSome o (λ at. at + 4 ≤ length file) × IfSome o (λ at. a + 4 ≤ 0x7ff00000)
+place_some file segments code a (Some at) h e = place_inside file segments code a at h (sym e)
+place_some file segments code a None h e = (search rules, search rules)
 
 pub not_code : (o : Option ℕ) → is_some o ≡ false → o ≡ None
 not_code None e = refl

@@ -1,5 +1,7 @@
 -- What is found in a list, and tests over parts of lists.
-use Rattle.std.proofs.Common.{◌≡◌, suc, ◌&&◌, Bool, true, false, List, [], ◌∷◌, map, refl, sym, ◌∙◌, arith, Some, None}
+use Rattle.std.proofs.Common.{◌≡◌, ℕ, zero, suc, ◌<◌, ◌&&◌, Bool, true, false, List, [], ◌∷◌, map, refl, sym, ◌∙◌, arith, Some, None}
+use Rattle.elf_read.specs.Refusals.{first_below}
+use Rattle.reloc_table.proofs.ListTests.{any_filter, any_map}
 use Rattle.std.specs.List.{All, AllPairs, filter, find, list_any}
 use Rattle.std.proofs.lemmas.List.Elements.{All-head, All-tail}
 
@@ -40,13 +42,7 @@ found_none p (y ∷ ys) h = decide (p y) refl (found_none p ys)
 -- a test of what another test lets through
 pub any_of_kept : {X Y : Type 0} (p : X → Bool) (f : X → Y) (q : Y → Bool) (xs : List X)
     → list_any q (map f (filter p xs)) ≡ list_any (λ x. p x && q (f x)) xs
-any_of_kept p f q [] = refl
-any_of_kept p f q (x ∷ xs) = decide (p x) refl (any_of_kept p f q xs)
-  where
-    decide : (b : Bool) → p x ≡ b → list_any q (map f (filter p xs)) ≡ list_any (λ x. p x && q (f x)) xs
-        → list_any q (map f (filter p (x ∷ xs))) ≡ list_any (λ x. p x && q (f x)) (x ∷ xs)
-    decide true e ih = rw (e, ih) refl
-    decide false e ih = rw e ih
+any_of_kept p f q xs = any_map f q (filter p xs) ∙ any_filter p (λ x. q (f x)) xs
 
 -- tests that agree on each element agree on the list
 pub any_same : {X : Type 0} (p q : X → Bool) (xs : List X) → All (λ x. p x ≡ q x) xs → list_any p xs ≡ list_any q xs
@@ -78,3 +74,8 @@ found_alike p q R P apart weaker (y ∷ ys) a r x h =
         (weaker x (found_passes q ys x g))
         )
     decide false false e f ih = rw f (ih (rw e at h))
+
+-- no number below n passes
+pub below_all : (p : ℕ → Bool) (n : ℕ) → ((b : ℕ) → b < n → p b ≡ false) → first_below p n ≡ None
+below_all p zero h = refl
+below_all p (suc n) h = rw (below_all p n (λ b l. h b (omega arith)), h n (omega arith)) refl

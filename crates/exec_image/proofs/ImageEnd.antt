@@ -55,7 +55,7 @@ place_below file segments code a h e =
     found f n (Some g) e = (g, refl)
     found f n None e = absurd (cc)
 
-use_some : (file : List ℕ) (a : ℕ) → uses_tp_at file a ≡ true → is_some (code_place file a) ≡ true
+pub use_some : (file : List ℕ) (a : ℕ) → uses_tp_at file a ≡ true → is_some (code_place file a) ≡ true
 unfolding uses_tp_at
 use_some file a h = decide (code_place file a) refl
   where

@@ -1,4 +1,4 @@
-mod Finding
+pub mod Finding
 mod Running
 mod Meeting
 mod LastBegun
@@ -8,13 +8,13 @@ mod CodePlaces
 mod Shares
 mod Texts
 mod HeapSymbols
-mod TpWords
-mod TpSteps
-mod ImageEnd
+pub mod ImageEnd
 mod Stubs
-mod HeapWords
+pub mod HeapWords
 mod SiteShape
 mod SiteSteps
 mod Passed
 mod PlanFits
 mod AcceptedFacts
+mod NextWords
+mod TpWords

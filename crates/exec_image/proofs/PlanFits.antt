@@ -22,14 +22,13 @@ use Rattle.site_spec.specs.declared.Site.{Site}
 use Rattle.site_spec.specs.Places.{reaches, stub_at, text_at}
 use Rattle.site_spec.specs.Plans.{Fits, IsInReach}
 use Rattle.site_spec.specs.Sites.{site_at}
-use Rattle.reloc_table.specs.Refusals.{◌or_else◌, Says, when}
+use Rattle.elf_read.specs.Refusals.{◌or_else◌, Says, when}
 use Rattle.exec_image.specs.declared.plan_fault.PlanFault.{PlanFault}
 use Rattle.exec_image.specs.declared.plan_fault.PlanFault.TheVariants.{PlanSite, PlanBit, PlanRow, AreaTooLarge, SiteOutOfReach}
 use Rattle.exec_image.specs.PlanFaults.{area_too_large, bad_row, bad_row_from, is_far, is_strange_bit, no_bit, no_bit_from, no_site, no_site_from, out_of_reach, out_of_reach_from, plan_fault, strange_mask, strange_masks}
-use Rattle.exec_image.proofs.Finding.{pairs_head, pairs_tail}
+use Rattle.exec_image.proofs.Finding.{below_all, pairs_head, pairs_tail}
 use Rattle.exec_image.proofs.Passed.{both_false, none_both, not_when}
 use Rattle.exec_image.proofs.SiteShape.{shape}
-use Rattle.exec_image.proofs.TpWords.{below_all}
 
 -- no element passes a test
 pub none_of_any : {X : Type 0} (p : X → Bool) (xs : List X) → list_any p xs ≡ false → All (λ x. p x ≡ false) xs

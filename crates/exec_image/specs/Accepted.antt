@@ -1,11 +1,12 @@
 -- What the checks keep of an accepted file, for those who use it.
 use Rattle.std.specs.Prelude.{◌≡◌, ℕ, ◌+◌, ◌%◌, ◌≤◌, true, false, List, length, All, Any, Some, IsSome}
 use Rattle.elf_spec.specs.declared.HeapName.{HeapName}
-use Rattle.elf_spec.specs.Code.{code_place, code_word}
+use Rattle.elf_spec.specs.declared.Section.{Section}
+use Rattle.elf_spec.specs.Code.{code_place, code_word, is_executable}
 use Rattle.elf_spec.specs.Fields.{is_set}
 use Rattle.elf_spec.specs.Heap.{heap_entry}
 use Rattle.elf_spec.specs.Memory.{image_end, is_loaded}
-use Rattle.elf_spec.specs.Records.{e_entry, e_phnum, segments_of}
+use Rattle.elf_spec.specs.Records.{e_entry, e_phnum, sections_of, segments_of}
 use Rattle.elf_read.specs.Checks.{is_shared}
 use Rattle.elf_read.specs.Elf.{IsReadable}
 use Rattle.elf_read.specs.Readable.{ReadableFacts}
@@ -20,6 +21,14 @@ pub record IsCodeAt (file : List ℕ) (a place : ℕ) : Type 0 where
   pub loaded : Any (λ g. (is_loaded g ≡ true) × (is_set 1 g.flags ≡ true) × (g.vaddr ≤ a) × (a + 4 ≤ g.vaddr + g.file_size) × (place + g.vaddr ≡ g.offset + a)) (segments_of file)
   pub plain : All (λ d. is_shared place 4 d.0 d.1 ≡ false) (descriptions file)
 
+-- an executable section has no byte that describes the file
+abbrev pub IsAlone : List ℕ → Section → Type 0
+IsAlone file s = is_executable s ≡ true → All (λ d. is_shared s.offset s.size d.0 d.1 ≡ false) (descriptions file)
+
+-- an executable section is made of whole words
+abbrev pub IsWords : Section → Type 0
+IsWords s = is_executable s ≡ true → (s.addr % 4 ≡ 0) × (s.size % 4 ≡ 0)
+
 -- a heap function has its two words in the code
 abbrev pub HasTwoWords : List ℕ → HeapName → Type 0
 HasTwoWords file name =
@@ -28,7 +37,9 @@ HasTwoWords file name =
 pub record AcceptedFacts (file : List ℕ) : Type 0 where
   pub readable : IsReadable file
   pub facts : ReadableFacts file
+  pub words : All IsWords (sections_of file)
   pub code : (a place : ℕ) → code_place file a ≡ Some place → IsCodeAt file a place
+  pub sections : All (IsAlone file) (sections_of file)
   pub entry : IsSome (code_word file (e_entry file))
   pub heap : (name : HeapName) → HasTwoWords file name
   pub unmarked : All (λ g. has_mark file g ≡ false) (segments_of file)

@@ -1,6 +1,6 @@
 -- What an image holds of its file.
 use Rattle.std.specs.Prelude.{◌≡◌}
-use Rattle.reloc_table.specs.ReadFrom.{IsReadFrom}
+use Rattle.elf_read.specs.Elf.{IsReadFrom}
 use Rattle.exec_image.specs.declared.image.Image.TheInside.{Inside}
 use Rattle.exec_image.specs.CodeParts.{IsCode, IsHeap}
 use Rattle.exec_image.specs.Images.{AreSites, IsAccepted, execs_of}

@@ -11,7 +11,7 @@ use Rattle.plan_core.specs.Plan.{granules}
 use Rattle.site_spec.specs.declared.Site.{Site}
 use Rattle.site_spec.specs.Places.{reaches, stub_at, text_at}
 use Rattle.site_spec.specs.Sites.{site_at}
-use Rattle.reloc_table.specs.Refusals.{◌or_else◌, when}
+use Rattle.elf_read.specs.Refusals.{◌or_else◌, when}
 use Rattle.exec_image.specs.declared.plan_fault.PlanFault.{PlanFault}
 use Rattle.exec_image.specs.declared.plan_fault.PlanFault.TheVariants.{PlanSite, PlanBit, PlanRow, AreaTooLarge, SiteOutOfReach}
 

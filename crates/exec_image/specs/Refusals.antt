@@ -8,7 +8,8 @@ use Rattle.elf_spec.specs.Code.{code_word, is_executable}
 use Rattle.elf_spec.specs.Memory.{image_end}
 use Rattle.elf_spec.specs.Records.{e_entry, e_phnum, sections_of, segments_of}
 use Rattle.elf_read.specs.Refusals.{first_below, memory_size, refusal}
-use Rattle.reloc_table.specs.Refusals.{◌or_else◌, reloc_refusal, when}
+use Rattle.elf_read.specs.Refusals.{◌or_else◌, when}
+use Rattle.reloc_table.specs.Refusals.{reloc_refusal}
 use Rattle.exec_image.specs.declared.refusals.FileRefusal.{FileRefusal}
 use Rattle.exec_image.specs.declared.refusals.FileRefusal.TheVariants.{Memory, Elf, Relocs, ExecNotWords, ExecOutside, EntryOut, HeapEntryTwice, HeapEntrySmall, AlreadyRewritten, ImageTooLarge, TpUsed}
 use Rattle.exec_image.specs.declared.refusals.ImagePart.TheVariants.{Headers, Bytes, End}

@@ -1,8 +1,8 @@
 // Accepts a file as an executable, or finds the first check that it fails.
 
 ghost use Rattle.std.specs.Prelude.{◌≡◌, ◌≢◌, ◌<◌, ◌^◌, Err, length};
-ghost use Rattle.reloc_table.specs.ReadFrom.{IsReadFrom};
-ghost use Rattle.reloc_table.specs.Refusals.{Says};
+ghost use Rattle.elf_read.specs.Elf.{IsReadFrom};
+ghost use Rattle.elf_read.specs.Refusals.{Says};
 ghost use Rattle.exec_image.specs.CodeParts.{IsCode, IsHeap};
 ghost use Rattle.exec_image.specs.Images.{GivesImage};
 ghost use Rattle.exec_image.specs.Refusals.{rest_refusal};
@@ -61,7 +61,7 @@ fn check_image(file: &[u8], elf: &Elf, code: &[Part], heap: &HeapEntries) -> Res
 
 /// Accepts a file of fewer than 2^32 bytes as an executable; or names the first check that it fails,
 /// in the order of the variants of `FileRefusal`, with the lowest index or address; or answers
-/// `Memory`. The time is linear in the file and its relocation entries, but for sorting.
+/// `Memory`. Time and memory are linear in the file, but for sorting, however its sections overlap.
 #[tactic(auto, using(reloc_table::proofs::Sections::few_sections))]
 pub fn accept(alloc: Global, file: &[u8]) -> Result<Image, FileRefusal>
     requires { length file.now < 2 ^ 32 }
@@ -82,7 +82,7 @@ pub fn accept(alloc: Global, file: &[u8]) -> Result<Image, FileRefusal>
     };
     let heap = read_heap(file, elf.symbols.as_slice());
     check_image(file, &elf, &code, &heap)?;
-    match image_of(alloc, file, elf, relocs.as_slice(), code, heap) {
+    match image_of(alloc, file, elf, relocs.entries_once(), code, heap) {
         Ok(image) => Ok(image),
         Err(_) => Err(FileRefusal::Memory),
     }

@@ -1,11 +1,13 @@
 // The code words of an executable: where they stand in the file, by the parts of memory that have code.
 
-ghost use Rattle.std.specs.Prelude.{◌≡◌, ◌+◌, ◌<◌, ◌≤◌, ◌^◌, is_some, length, IfOk, IfSome};
+ghost use Rattle.std.specs.Prelude.{◌≡◌, ℕ, ◌+◌, ◌<◌, ◌≤◌, ◌^◌, is_some, length, None, IfNone, IfOk, IfSome, IsSome};
 ghost use Rattle.elf_spec.specs.Code.{code_place, code_word};
+ghost use Rattle.elf_spec.specs.Memory.{image_end};
+ghost use Rattle.elf_spec.specs.Records.{segments_of};
 ghost use Rattle.exec_image.specs.CodeParts.{IsCode, code_parts, holds_in_file, place_in};
 ghost use Rattle.exec_image.specs.Parts.{StandsFor};
 
-use crate::parts::{Part, in_order, meets};
+use crate::parts::{Part, first_above, in_order, meets};
 use elf_read::word;
 use elf_spec::{Section, Segment};
 use reloc_table::is_executable;
@@ -65,9 +67,11 @@ pub fn is_code_word(file: &[u8], segments: &[Segment], code: &[Part], addr: u32)
 
 /// The file offset of the code word at an address; `None` where the address is no code word.
 #[tactic(auto, using(crate::proofs::CodePlaces::not_code))]
-fn code_place(file: &[u8], segments: &[Segment], code: &[Part], addr: u32) -> Option<usize>
+pub fn code_place(file: &[u8], segments: &[Segment], code: &[Part], addr: u32) -> Option<usize>
     requires { IsCode file.now segments.now code.now }
-    ensures { result ≡ code_place file.now addr }
+    ensures exact { result ≡ code_place file.now addr }
+    ensures inside { IfSome result (λ at. at + 4 ≤ length file.now) }
+    ensures low { IfSome result (λ at. addr + 4 ≤ 0x7ff00000) }
 {
     if is_code_word(file, segments, code, addr) {
         place_in(segments, addr)
@@ -84,4 +88,21 @@ pub fn code_word(file: &[u8], segments: &[Segment], code: &[Part], addr: u32) ->
 {
     let at = code_place(file, segments, code, addr)?;
     Some(word(file, at))
+}
+
+/// The address of the first code word from an address on; `None` where there is none.
+pub fn next_code_word(file: &[u8], segments: &[Segment], code: &[Part], from: u32) -> Option<u32>
+    requires { IsCode file.now segments.now code.now }
+    ensures found { IfSome result (λ a. (from ≤ a) × (a + 4 ≤ image_end (segments_of file.now)) × IsSome (code_word file.now a)) }
+    ensures low { IfSome result (λ a. a + 4 ≤ 0x7ff00000) }
+    ensures first { IfSome result (λ a. (b : ℕ) → from ≤ b → b < a → code_word file.now b ≡ None) }
+    ensures none { IfNone result ((b : ℕ) → from ≤ b → code_word file.now b ≡ None) }
+{
+    let at = (from as u64).div_ceil(4) * 4;
+    let first = first_above(code, at);
+    if first < code.len() {
+        Some(at.max(code[first].start) as u32)
+    } else {
+        None
+    }
 }

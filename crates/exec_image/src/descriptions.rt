@@ -4,7 +4,7 @@
 ghost use Rattle.std.specs.Prelude.{◌≡◌, ◌<◌, ◌^◌, ◌++◌, [], ◌∷◌, filter, find, map, IfOk, OnOk};
 ghost use Rattle.elf_spec.specs.Relocations.{is_kept_rela};
 ghost use Rattle.elf_spec.specs.Tables.{is_symtab, strings_of, symtab_index};
-ghost use Rattle.reloc_table.specs.ReadFrom.{IsReadFrom};
+ghost use Rattle.elf_read.specs.Elf.{IsReadFrom};
 ghost use Rattle.exec_image.specs.Checks.{descriptions, sections_in};
 ghost use Rattle.exec_image.specs.Parts.{StandsFor, parts_of};
 

@@ -5,7 +5,7 @@ ghost use Rattle.std.specs.List.{list_any};
 ghost use Rattle.elf_spec.specs.Code.{code_word};
 ghost use Rattle.elf_spec.specs.Heap.{heap_entry, heap_name, is_heap_symbol};
 ghost use Rattle.elf_spec.specs.Tables.{symbol_name, symbols_of};
-ghost use Rattle.reloc_table.specs.Refusals.{Says, when};
+ghost use Rattle.elf_read.specs.Refusals.{Says, when};
 ghost use Rattle.exec_image.specs.HeapChecks.{has_two_values, is_overlap, is_small, is_twice, lacks_words};
 ghost use Rattle.exec_image.specs.CodeParts.{IsCode, IsHeap};
 ghost use Rattle.exec_image.specs.Refusals.{heap_entry_small, heap_entry_twice};

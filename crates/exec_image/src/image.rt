@@ -1,26 +1,31 @@
 // An accepted executable.
 
-ghost use Rattle.std.specs.Prelude.{◌≡◌, ◌≤◌, true, slice_get, IfOk};
-ghost use Rattle.elf_spec.specs.Code.{code_word};
+ghost use Rattle.std.specs.Prelude.{◌≡◌, ℕ, Bool, ◌+◌, ◌<◌, ◌≤◌, true, None, length, slice_get, IfNone, IfOk, IfSome, IsSome};
+ghost use Rattle.std.specs.List.{list_any};
+ghost use Rattle.elf_spec.specs.declared.Reloc.{Reloc};
+ghost use Rattle.elf_spec.specs.Code.{code_place, code_word};
 ghost use Rattle.elf_spec.specs.Heap.{heap_entry};
+ghost use Rattle.elf_spec.specs.Memory.{image_end};
 ghost use Rattle.elf_spec.specs.Records.{segments_of};
 ghost use Rattle.elf_spec.specs.Relocations.{relocs_of};
-ghost use Rattle.reloc_table.specs.ReadFrom.{IsReadFrom};
+ghost use Rattle.elf_read.specs.Elf.{IsReadFrom};
 ghost use Rattle.site_spec.specs.Places.{text_at};
+ghost use Rattle.site_spec.specs.Sites.{is_heap_word, site_at};
 ghost use Rattle.exec_image.specs.Accepted.{AcceptedFacts};
 ghost use Rattle.exec_image.specs.CodeParts.{IsCode, IsHeap};
 ghost use Rattle.exec_image.specs.Images.{AreSites, IsAccepted, execs_of, file_part, is_loaded_one};
 
 use crate::calls::read_calls;
-use crate::code::code_word;
+use crate::code::{code_place, code_word, next_code_word};
 use crate::execs::{Execs, read_execs};
 use crate::file_bytes::bytes_at;
 use crate::heap::{HeapEntries, entry_in};
 use crate::parts::Part;
 use crate::segments::text_place;
-use crate::sites::{Sites, read_sites};
+use crate::sites::{Sites, find_site, is_heap_word, read_sites};
 use elf_read::Elf;
 use elf_spec::{HeapName, Reloc};
+use site_spec::Site;
 use std::alloc::{AllocError, Global};
 use std::marker::Model;
 
@@ -48,8 +53,8 @@ impl Model for Image {
     ghost invariant = { λ a. IsImage a };
 }
 
-/// The image of an accepted file, from what was read of it.
-#[tactic(auto, using(reloc_table::proofs::Sections::few_sections, crate::proofs::Passed::accepted_end), unfolding(crate::specs::Images::execs_of))]
+/// The image of an accepted file, from what was read of it; `relocs` are its entries in any order.
+#[tactic(auto, using(reloc_table::proofs::Sections::few_sections, crate::proofs::Passed::accepted_end, crate::proofs::CallKinds::calls_same), unfolding(crate::specs::Images::execs_of))]
 pub fn image_of(
     alloc: Global,
     file: &[u8],
@@ -60,7 +65,7 @@ pub fn image_of(
 ) -> Result<Image, AllocError>
     requires accepted { IsAccepted file.now }
     requires read { IsReadFrom elf file.now }
-    requires relocs { relocs.now ≡ relocs_of file.now }
+    requires relocs { (p : Reloc → Bool) → list_any p relocs.now ≡ list_any p (relocs_of file.now) }
     requires code { IsCode file.now elf.segments code.items }
     requires heap { IsHeap file.now heap }
     ensures { IfOk result (λ image. image ≡ file.now) }
@@ -90,11 +95,25 @@ impl Image {
         &self.sites
     }
 
+    /// The site at an address; `None` where there is none.
+    pub fn site(&self, addr: u32) -> Option<Site>
+        ensures { result ≡ site_at self.now addr }
+    {
+        find_site(&self.file, self.sites.as_slice(), addr)
+    }
+
     /// The address of a heap function; `None` where the executable lacks it.
     pub fn heap_entry(&self, name: HeapName) -> Option<u32>
         ensures { result ≡ heap_entry self.now name }
     {
         entry_in(&self.file, &self.heap, name)
+    }
+
+    /// Whether an address is that of one of the two words of a heap function.
+    pub fn is_heap_word(&self, addr: u32) -> bool
+        ensures { result ≡ is_heap_word self.now addr }
+    {
+        is_heap_word(&self.file, &self.heap, addr)
     }
 
     /// Where a new text would stand: the first multiple of 4096 that is past all segments and at least
@@ -144,5 +163,24 @@ impl Image {
         ensures { result ≡ code_word self.now addr }
     {
         code_word(&self.file, self.elf.segments.as_slice(), &self.code, addr)
+    }
+
+    /// Where in the file the code word at an address stands; `None` where the address is no code word.
+    pub fn code_place(&self, addr: u32) -> Option<u32>
+        ensures exact { result ≡ code_place self.now addr }
+        ensures inside { IfSome result (λ at. at + 4 ≤ length self.now) }
+    {
+        let at = code_place(&self.file, self.elf.segments.as_slice(), &self.code, addr)?;
+        Some(at as u32)
+    }
+
+    /// The address of the first code word from an address on; `None` where there is none. The time is
+    /// logarithmic in the number of executable sections.
+    pub fn next_code_word(&self, from: u32) -> Option<u32>
+        ensures found { IfSome result (λ a. (from ≤ a) × (a + 4 ≤ image_end (segments_of self.now)) × IsSome (code_word self.now a)) }
+        ensures first { IfSome result (λ a. (b : ℕ) → from ≤ b → b < a → code_word self.now b ≡ None) }
+        ensures none { IfNone result ((b : ℕ) → from ≤ b → code_word self.now b ≡ None) }
+    {
+        next_code_word(&self.file, self.elf.segments.as_slice(), &self.code, from)
     }
 }

@@ -24,7 +24,7 @@ pub use accepting::accept;
 pub use elf_spec::HeapName;
 pub use execs::{Exec, Execs};
 pub use image::Image;
-pub use laws::no_two_sites_share_a_return_address;
+pub use laws::{accepted_files_keep_their_facts, no_two_sites_share_a_return_address};
 pub use plan_check::check_plan;
 pub use plan_fault::PlanFault;
 pub use refusals::{FileRefusal, ImagePart};

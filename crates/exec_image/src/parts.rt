@@ -1,7 +1,7 @@
 // Parts of a file or of memory, in which a number is looked up in logarithmic time, however they
 // overlap.
 
-ghost use Rattle.std.specs.Prelude.{◌≡◌, IfOk};
+ghost use Rattle.std.specs.Prelude.{◌≡◌, ℕ, ◌<◌, ◌≤◌, get_or, length, IfOk};
 ghost use Rattle.std.specs.List.{list_any};
 ghost use Rattle.std.specs.List.Sorted.{IsNonDecreasingBy};
 ghost use Rattle.exec_image.specs.Parts.{StandsFor, is_meeting, running};
@@ -48,4 +48,14 @@ pub fn meets(sorted: &[Part], from: u64, to: u64) -> bool
 {
     let count = sorted.partition_point(|p| p.start < to);
     count > 0 && sorted[count - 1].end > from
+}
+
+/// The index of the first of the parts in order that ends above a number; their count where none does.
+pub fn first_above(sorted: &[Part], at: u64) -> usize
+    requires { IsNonDecreasingBy (λ (p : Part). p.end) sorted.now }
+    ensures bound { result ≤ length sorted.now }
+    ensures below { (k : ℕ) (d : Part) → k < result → (get_or sorted.now k d).end ≤ at }
+    ensures above { (k : ℕ) (d : Part) → result ≤ k → k < length sorted.now → at < (get_or sorted.now k d).end }
+{
+    sorted.partition_point(|p| p.end <= at)
 }

@@ -4,7 +4,7 @@ ghost use Rattle.std.specs.Prelude.{◌≡◌, ◌==◌, ◌<◌, ◌≤◌, ◌
 ghost use Rattle.std.specs.List.{list_any};
 ghost use Rattle.plan_core.specs.Plan.{granules};
 ghost use Rattle.site_spec.specs.Places.{text_at};
-ghost use Rattle.reloc_table.specs.Refusals.{Says};
+ghost use Rattle.elf_read.specs.Refusals.{Says};
 ghost use Rattle.site_spec.specs.Plans.{Fits};
 ghost use Rattle.exec_image.specs.PlanFaults.{area_too_large, bad_row, is_far, is_strange_bit, no_bit, no_site, out_of_reach, plan_fault, strange_mask, strange_masks};
 ghost use Rattle.exec_image.specs.Images.{AreSites};

@@ -170,7 +170,7 @@ fn is_word_of_one(entries: &[Option<u32>], addr: u32) -> bool
 }
 
 /// Whether an address is that of a word of a heap function.
-fn is_heap_word(file: &[u8], heap: &HeapEntries, addr: u32) -> bool
+pub fn is_heap_word(file: &[u8], heap: &HeapEntries, addr: u32) -> bool
     requires { IsHeap file.now heap.now }
     ensures { result ≡ is_heap_word file.now addr }
 {

@@ -1,12 +1,12 @@
 // The check that no code word names x4.
 
 ghost use Rattle.std.specs.Prelude.{◌≡◌, ℕ, ◌<◌, ◌≤◌, false, true, IfNone, IfSome};
-ghost use Rattle.reloc_table.specs.Refusals.{Says};
+ghost use Rattle.elf_read.specs.Refusals.{Says};
 ghost use Rattle.exec_image.specs.Checks.{is_tp_word, uses_tp_at};
 ghost use Rattle.exec_image.specs.CodeParts.{IsCode};
 ghost use Rattle.exec_image.specs.Refusals.{tp_used};
 
-use crate::code::code_word;
+use crate::code::{code_word, next_code_word};
 use crate::parts::Part;
 use crate::refusals::FileRefusal;
 use elf_spec::Segment;
@@ -27,27 +27,6 @@ fn is_tp_word(word: Option<u32>) -> bool
     }
 }
 
-/// The first code word that names x4, from one address to before another.
-fn first_tp(file: &[u8], segments: &[Segment], code: &[Part], from: u64, to: u64) -> Option<u32>
-    requires code { IsCode file.now segments.now code.now }
-    requires to { to ≤ 0x7ff00000 }
-    ensures found { IfSome result (λ a. uses_tp_at file.now a ≡ true) }
-    ensures first { IfSome result (λ a. (b : ℕ) → from ≤ b → b < a → uses_tp_at file.now b ≡ false) }
-    ensures none { IfNone result ((b : ℕ) → from ≤ b → b < to → uses_tp_at file.now b ≡ false) }
-{
-    if from >= to {
-        return None;
-    }
-    let mut at = from.div_ceil(4) * 4;
-    while at < to {
-        if is_tp_word(code_word(file, segments, code, at as u32)) {
-            return Some(at as u32);
-        }
-        at += 4;
-    }
-    None
-}
-
 /// The first code word that names x4.
 fn find_tp(file: &[u8], segments: &[Segment], code: &[Part]) -> Option<u32>
     requires { IsCode file.now segments.now code.now }
@@ -55,12 +34,12 @@ fn find_tp(file: &[u8], segments: &[Segment], code: &[Part]) -> Option<u32>
     ensures first { IfSome result (λ a. (b : ℕ) → b < a → uses_tp_at file.now b ≡ false) }
     ensures none { IfNone result ((b : ℕ) → uses_tp_at file.now b ≡ false) }
 {
-    let mut at = 0;
-    for p in code {
-        if let Some(a) = first_tp(file, segments, code, at.max(p.start), p.end) {
+    let mut from = 0;
+    while let Some(a) = next_code_word(file, segments, code, from) {
+        if is_tp_word(code_word(file, segments, code, a)) {
             return Some(a);
         }
-        at = at.max(p.end);
+        from = a + 4;
     }
     None
 }

@@ -7,6 +7,7 @@ use elf_read::read_elf;
 use flat_mem::load;
 use halo_outside::{MemSink, MemSource};
 use machine_spec::Ending;
+use rv_build::Builder;
 use std::alloc::{AllocError, Global};
 use std::process::Abort;
 use std::test::Fail;
@@ -64,24 +65,14 @@ const WRITES: [u32; 14] = [
     0x0000_0073, // ecall
 ];
 
-fn push_words(bytes: &mut Vec<u8>, words: &[u32]) -> Result<(), AllocError> {
-    for word in words {
-        bytes.extend_from_slice(&word.to_le_bytes())?;
-    }
-    Ok(())
-}
-
-/// A file with one segment, which ends behind the code.
+/// The file of a program whose code is the first 64 of these words.
 fn file(alloc: Global, code: &[u32]) -> Result<Vec<u8>, AllocError> {
-    let size = 0x100 + 4 * (code.len().min(64) as u32);
-    let mut bytes = Vec::new(alloc);
-    bytes.extend_from_slice(b"\x7fELF\x01\x01\x01\0\0\0\0\0\0\0\0\0")?;
-    push_words(&mut bytes, &[0xf30002, 1, ENTRY, 52, 0, 0])?;
-    push_words(&mut bytes, &[0x200034, 0x280001, 0])?;
-    push_words(&mut bytes, &[1, 0, 0x10000, 0x10000, size, size, 5, 4])?;
-    push_words(&mut bytes, &[0; 43])?;
-    push_words(&mut bytes, code)?;
-    Ok(bytes)
+    let words = &code[..code.len().min(64)];
+    let mut builder = Builder::new(alloc);
+    for word in words {
+        builder.word(*word)?;
+    }
+    builder.finish(alloc)
 }
 
 /// The machine that is about to run the code; the only failures here are those of memory.

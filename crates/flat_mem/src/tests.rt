@@ -4,34 +4,41 @@ ghost use Rattle.std.specs.Prelude.{◌<◌, ◌^◌, length};
 
 use crate::{FlatMem, load};
 use elf_read::read_elf;
+use rv_build::Builder;
 use rv_isa::Width;
 use std::alloc::{AllocError, Global};
 use std::test::Fail;
 
-/// A file of 512 bytes with two segments, each given by its file offset, address, size in the file and
-/// in memory, and flags. Behind the headers each byte is the low byte of its offset.
-fn two_segments(alloc: Global, segments: [[u32; 5]; 2]) -> Result<Vec<u8>, AllocError> {
-    let mut bytes = Vec::new(alloc);
-    bytes.extend_from_slice(b"\x7fELF\x01\x01\x01\0\0\0\0\0\0\0\0\0")?;
-    push_words(&mut bytes, &[0xf30002, 1, 0x10000, 52, 0, 0])?;
-    push_words(&mut bytes, &[0x200034, 0x280002, 0])?;
-    for [offset, addr, in_file, in_memory, flags] in segments {
-        push_words(
-            &mut bytes,
-            &[1, offset, addr, addr, in_file, in_memory, flags, 4],
-        )?;
+/// A program of 64 words, from 0x100 to 0x200 in its file of 764 bytes, where each byte is the low byte
+/// of its offset.
+fn program(alloc: Global) -> Result<Vec<u8>, AllocError> {
+    let mut builder = Builder::new(alloc);
+    for k in 0..64_u32 {
+        builder.word(0x0302_0100 + 0x0404_0404 * k)?;
     }
-    for at in 116..512_u32 {
-        bytes.push((at % 256) as u8)?;
-    }
-    Ok(bytes)
+    builder.finish(alloc)
 }
 
-fn push_words(bytes: &mut Vec<u8>, words: &[u32]) -> Result<(), AllocError> {
-    for word in words {
-        bytes.extend_from_slice(&word.to_le_bytes())?;
+/// The program with two segments in the place of its own, each given by its file offset, address, size
+/// in the file and in memory, and flags.
+fn two_segments(alloc: Global, segments: [[u32; 5]; 2]) -> Result<Vec<u8>, AllocError> {
+    let mut headers = Vec::new(alloc);
+    for [offset, addr, in_file, in_memory, flags] in segments {
+        for field in [1, offset, addr, addr, in_file, in_memory, flags, 4] {
+            headers.extend_from_slice(&field.to_le_bytes())?;
+        }
     }
-    Ok(())
+    let mut file = program(alloc)?;
+    change(&mut file, 44, &[2]);
+    change(&mut file, 52, &headers);
+    Ok(file)
+}
+
+/// Puts bytes at an offset, as far as the file reaches.
+fn change(file: &mut [u8], at: usize, bytes: &[u8]) {
+    for (place, byte) in file.iter_mut().skip(at).zip(bytes) {
+        *place = *byte;
+    }
 }
 
 /// The memory of a file; the only failures here are those of memory.
@@ -53,7 +60,7 @@ fn code_and_data_side_by_side(rt: HostRuntime) -> Result<(), Fail> {
             [0x134, 0x10134, 0xcc, 0xcc, 6],
         ],
     )?;
-    assert_eq!(rt; file.len(), 512);
+    assert_eq!(rt; file.len(), 764);
     let mut memory = memory(rt.alloc(), &file)?;
     assert_eq!(rt; memory.get(0x10133), Some(0x33));
     assert_eq!(rt; memory.get(0x10134), Some(0x34));
@@ -73,7 +80,7 @@ fn zeros_behind_the_file_part_and_in_the_stack(rt: HostRuntime) -> Result<(), Fa
         rt.alloc(),
         [[0x1fc, 0x10000, 4, 8, 6], [0x100, 0x20000, 0, 0, 6]],
     )?;
-    assert_eq!(rt; file.len(), 512);
+    assert_eq!(rt; file.len(), 764);
     let mut memory = memory(rt.alloc(), &file)?;
     assert_eq!(rt; memory.load_number(Width::Word, 0x10000), Some(0xfffefdfc));
     assert_eq!(rt; memory.load_number(Width::Word, 0x10004), Some(0));
@@ -105,7 +112,7 @@ fn touching(alloc: Global, flags: u32) -> Result<Vec<u8>, AllocError> {
 #[test]
 fn numbers_over_two_ranges(rt: HostRuntime) -> Result<(), Fail> {
     let file = touching(rt.alloc(), 7)?;
-    assert_eq!(rt; file.len(), 512);
+    assert_eq!(rt; file.len(), 764);
     let mut memory = memory(rt.alloc(), &file)?;
     assert_eq!(rt; memory.fetch(0x10004), Some(0x2d2c0504));
     assert_eq!(rt; memory.load_number(Width::Word, 0x10004), Some(0x2d2c0504));
@@ -125,7 +132,7 @@ fn numbers_over_two_ranges(rt: HostRuntime) -> Result<(), Fail> {
 #[test]
 fn flags_of_the_second_range_count(rt: HostRuntime) -> Result<(), Fail> {
     let read_only = touching(rt.alloc(), 4)?;
-    assert_eq!(rt; read_only.len(), 512);
+    assert_eq!(rt; read_only.len(), 764);
     let mut memory = memory(rt.alloc(), &read_only)?;
     assert_eq!(rt; memory.fetch(0x10000), Some(0x03020100));
     assert_eq!(rt; memory.fetch(0x10004), None);
@@ -139,7 +146,7 @@ fn flags_of_the_second_range_count(rt: HostRuntime) -> Result<(), Fail> {
 #[test]
 fn pieces_over_two_ranges(rt: HostRuntime) -> Result<(), Fail> {
     let file = touching(rt.alloc(), 6)?;
-    assert_eq!(rt; file.len(), 512);
+    assert_eq!(rt; file.len(), 764);
     let mut memory = memory(rt.alloc(), &file)?;
     assert!(rt; memory.holds(0x10000, 12));
     assert!(rt; !memory.holds(0x10000, 13));

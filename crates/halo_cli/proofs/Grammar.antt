@@ -2,7 +2,7 @@
 use Rattle.std.proofs.Common.{◌≡◌, ◌≢◌, ◌∙◌, ℕ, ◌+◌, ◌<◌, ◌≤◌, ◌⊎◌, inl, inr, ⊎_elim, List, [], ◌∷◌, length, None, Some, IsSome, refl, sym, ap, subst, arith, codes, slice_get}
 use Rattle.text_fields.specs.Reading.{number_of}
 use Rattle.halo_cli.specs.Words.{IsOperand, IsOperandAt, Asked, AsksFor, IsLine, BeginsLine, IsFirstWrong, default_steps, most_steps}
-use Rattle.halo_cli.specs.Words.Asked.{Rewrite, Run}
+use Rattle.halo_cli.specs.Words.Asked.{Rewrite, Run, Show}
 use Rattle.halo_cli.specs.Asking.{StepsAre}
 
 -- some word that may be an operand
@@ -12,7 +12,7 @@ letter = 120 ∷ []
 letter_is_operand : IsOperand letter
 letter_is_operand e = omega arith
 
--- the words behind `rewrite`, and behind `run`
+-- the words behind `rewrite`, behind `run` and behind `show`
 abbrev RewriteRest : List (List ℕ) → Type 0
 RewriteRest rest = (plan : List ℕ) × (file : List ℕ) × (rest ≡ plan ∷ file ∷ []) × IsOperand plan × IsOperand file
 
@@ -21,33 +21,54 @@ RunRest rest = ((file : List ℕ) × (rest ≡ file ∷ []) × IsOperand file)
     ⊎ ((value : List ℕ) × (file : List ℕ) × (steps : ℕ) × (rest ≡ codes "--steps" ∷ value ∷ file ∷ [])
     × (number_of most_steps value ≡ Some steps) × IsOperand file)
 
+abbrev ShowRest : List (List ℕ) → Type 0
+ShowRest rest = (file : List ℕ) × (rest ≡ file ∷ []) × IsOperand file
+
 -- a line begins with a command
 line_command : (command : List ℕ) (rest : List (List ℕ)) (asked : Asked) → AsksFor (command ∷ rest) asked
-    → ((command ≡ codes "rewrite") × RewriteRest rest) ⊎ ((command ≡ codes "run") × RunRest rest)
+    → ((command ≡ codes "rewrite") × RewriteRest rest) ⊎ ((command ≡ codes "run") × RunRest rest) ⊎ ((command ≡ codes "show") × ShowRest rest)
 line_command command rest (Rewrite plan file) (words, p, f) =
     inl (cc, (plan, file, cc, p, f))
-line_command command rest (Run steps file) ([], words, are, f) = inr (cc, inl (file, cc, f))
+line_command command rest (Run steps file) ([], words, are, f) = inr (inl (cc, inl (file, cc, f)))
 line_command command rest (Run steps file) (name ∷ [], words, are, f) = absurd are
 line_command command rest (Run steps file) (name ∷ value ∷ [], words, are, f) =
     let name_is : name ≡ codes "--steps" = are.0 in
-    inr (cc, inr (value, file, steps, (let h : command ∷ rest ≡ codes "run" ∷ name ∷ value ∷ file ∷ [] = words in cc), are.1, f))
+    inr (inl (cc, inr (value, file, steps, (let h : command ∷ rest ≡ codes "run" ∷ name ∷ value ∷ file ∷ [] = words in cc), are.1, f)))
 line_command command rest (Run steps file) (name ∷ value ∷ next ∷ more, words, are, f) = absurd are
+line_command command rest (Show file) (words, f) = inr (inr (cc, (file, cc, f)))
 
 no_empty_line : (asked : Asked) → AsksFor [] asked → ⊥
 no_empty_line (Rewrite plan file) (words, p, f) = cc
 no_empty_line (Run steps file) (options, words, are, f) = cc
+no_empty_line (Show file) (words, f) = cc
 
--- `rewrite` and `run` are two words
-other_command : codes "rewrite" ≡ codes "run" → ⊥
-other_command e = cc
+-- the commands are three words
+not_run : codes "rewrite" ≡ codes "run" → ⊥
+not_run e = cc
+
+not_show : codes "rewrite" ≡ codes "show" → ⊥
+not_show e = cc
+
+no_show : codes "run" ≡ codes "show" → ⊥
+no_show e = cc
 
 rewrite_rest : (command : List ℕ) (rest : List (List ℕ)) → command ≡ codes "rewrite" → IsLine (command ∷ rest) → RewriteRest rest
 rewrite_rest command rest is (asked, asks) =
-    ⊎_elim (λ found. found.1) (λ found. absurd (other_command (sym is ∙ found.0))) (line_command command rest asked asks)
+    ⊎_elim (λ found. found.1)
+    (λ other. ⊎_elim (λ found. absurd (not_run (sym is ∙ found.0))) (λ found. absurd (not_show (sym is ∙ found.0))) other)
+    (line_command command rest asked asks)
 
 run_rest : (command : List ℕ) (rest : List (List ℕ)) → command ≡ codes "run" → IsLine (command ∷ rest) → RunRest rest
 run_rest command rest is (asked, asks) =
-    ⊎_elim (λ found. absurd (other_command (sym found.0 ∙ is))) (λ found. found.1) (line_command command rest asked asks)
+    ⊎_elim (λ found. absurd (not_run (sym found.0 ∙ is)))
+    (λ other. ⊎_elim (λ found. found.1) (λ found. absurd (no_show (sym is ∙ found.0))) other)
+    (line_command command rest asked asks)
+
+show_rest : (command : List ℕ) (rest : List (List ℕ)) → command ≡ codes "show" → IsLine (command ∷ rest) → ShowRest rest
+show_rest command rest is (asked, asks) =
+    ⊎_elim (λ found. absurd (not_show (sym found.0 ∙ is)))
+    (λ other. ⊎_elim (λ found. absurd (no_show (sym found.0 ∙ is))) (λ found. found.1) other)
+    (line_command command rest asked asks)
 
 -- lines with these words
 rewrite_line : (command plan file : List ℕ) → command ≡ codes "rewrite" → IsOperand plan → IsOperand file → IsLine (command ∷ plan ∷ file ∷ [])
@@ -61,6 +82,9 @@ steps_line : (command name value file : List ℕ) (steps : ℕ) → command ≡ 
 steps_line command name value file steps e n v f =
     (Run steps file, (name ∷ value ∷ [], ap (λ word. word ∷ name ∷ value ∷ file ∷ []) e, (n, v), f))
 
+show_line : (command file : List ℕ) → command ≡ codes "show" → IsOperand file → IsLine (command ∷ file ∷ [])
+show_line command file e f = (Show file, (ap (λ word. word ∷ file ∷ []) e, f))
+
 zero_is_read : number_of most_steps (48 ∷ []) ≡ Some 0
 unfolding number_of
 zero_is_read = refl
@@ -69,11 +93,13 @@ begins_none : BeginsLine []
 begins_none = (codes "rewrite" ∷ letter ∷ letter ∷ [], rewrite_line _ letter letter refl letter_is_operand letter_is_operand)
 
 -- the first word is no command
-pub first_wrong-0 : (words : List (List ℕ)) → (slice_get words 0 ≡ Some (codes "rewrite") → ⊥) → (slice_get words 0 ≡ Some (codes "run") → ⊥) → IsFirstWrong words 0
-first_wrong-0 [] other other' = record { before = begins_none; wrong = inr (refl, λ (asked, asks). no_empty_line asked asks) }
-first_wrong-0 (command ∷ more) other other' = record {
+pub first_wrong-0 : (words : List (List ℕ)) → (slice_get words 0 ≡ Some (codes "rewrite") → ⊥) → (slice_get words 0 ≡ Some (codes "run") → ⊥)
+    → (slice_get words 0 ≡ Some (codes "show") → ⊥) → IsFirstWrong words 0
+first_wrong-0 [] no_rewrite no_run no_show = record { before = begins_none; wrong = inr (refl, λ (asked, asks). no_empty_line asked asks) }
+first_wrong-0 (command ∷ more) no_rewrite no_run no_show = record {
   before = begins_none;
-  wrong = inl (λ begun. ⊎_elim (λ found. other (ap (λ word. Some word) found.0)) (λ found. other' (ap (λ word. Some word) found.0))
+  wrong = inl (λ begun. ⊎_elim (λ found. no_rewrite (ap (λ word. Some word) found.0))
+      (λ other. ⊎_elim (λ found. no_run (ap (λ word. Some word) found.0)) (λ found. no_show (ap (λ word. Some word) found.0)) other)
       (line_command command begun.0 begun.1.0 begun.1.1));
 }
 
@@ -296,3 +322,49 @@ asks_run (command ∷ word ∷ number ∷ operand ∷ []) steps place file first
     let there_3 = subst (λ k. IsOperandAt (command ∷ word ∷ number ∷ operand ∷ []) k file) at there in
     (word ∷ value ∷ [], (let h : Some operand ≡ Some file = there_3.0 in cc), ((let h : Some word ≡ Some (codes "--steps") = name in cc), is), there_3.1)
 asks_run (command ∷ word ∷ number ∷ operand ∷ next ∷ rest) steps place file first (inr (at, name, (value, found, is))) there few = absurd (omega (arith, at))
+
+-- the front of a line whose command is `show`
+show_one : (command : List ℕ) → command ≡ codes "show" → BeginsLine (command ∷ [])
+show_one command e = (letter ∷ [], show_line command letter e letter_is_operand)
+
+show_two : (command file : List ℕ) → command ≡ codes "show" → IsOperand file → BeginsLine (command ∷ file ∷ [])
+show_two command file e f = ([], show_line command file e f)
+
+-- what stands behind `show` in a line
+show_none : ShowRest [] → ⊥
+show_none (file, is, f) = cc
+
+show_first : (word : List ℕ) (rest : List (List ℕ)) → ShowRest (word ∷ rest) → IsOperand word
+show_first word rest (file, is, f) = let e : file ≡ word = cc in subst IsOperand e f
+
+show_more : (word next : List ℕ) (rest : List (List ℕ)) → ShowRest (word ∷ next ∷ rest) → ⊥
+show_more word next rest (file, is, f) = cc
+
+-- the file is missing
+pub shown_missing : (words : List (List ℕ)) → slice_get words 0 ≡ Some (codes "show") → ((word : List ℕ) → IsOperandAt words 1 word → ⊥) → IsFirstWrong words 1
+shown_missing [] first missing = absurd (let h : None ≡ Some (codes "show") = first in cc)
+shown_missing (command ∷ []) first missing = record {
+  before = show_one command (cc);
+  wrong = inr (refl, λ line. show_none (show_rest command [] (cc) line));
+}
+shown_missing (command ∷ word ∷ more) first missing = record {
+  before = show_one command (cc);
+  wrong = inl (λ begun. missing word (refl, show_first word begun.0 (show_rest command _ (cc) begun.1)));
+}
+
+-- there are too many words
+pub shown_too_many : (words : List (List ℕ)) (file : List ℕ) → slice_get words 0 ≡ Some (codes "show") → IsOperandAt words 1 file → 2 < length words → IsFirstWrong words 2
+shown_too_many [] file first there more = absurd (let h : None ≡ Some (codes "show") = first in cc)
+shown_too_many (command ∷ []) file first there more = absurd (omega arith)
+shown_too_many (command ∷ word ∷ []) file first there more = absurd (omega arith)
+shown_too_many (command ∷ word ∷ next ∷ rest) file first there more = record {
+  before = show_two command word (cc) (is_operand word file there.0 there.1);
+  wrong = inl (λ begun. show_more word next begun.0 (show_rest command _ (cc) begun.1));
+}
+
+-- the words are a line
+pub asks_show : (words : List (List ℕ)) (file : List ℕ) → slice_get words 0 ≡ Some (codes "show") → IsOperandAt words 1 file → length words ≤ 2 → AsksFor words (Show file)
+asks_show [] file first there few = absurd (let h : None ≡ Some (codes "show") = first in cc)
+asks_show (command ∷ []) file first there few = absurd (let h : None ≡ Some file = there.0 in cc)
+asks_show (command ∷ word ∷ []) file first there few = (cc (there.0), there.1)
+asks_show (command ∷ word ∷ next ∷ rest) file first there few = absurd (omega arith)

@@ -2,19 +2,23 @@
 use Rattle.std.proofs.Common.{◌≡◌, ◌≢◌, ◌∙◌, ℕ, ◌≤◌, ◌⊎◌, inl, inr, ⊎_elim, List, Some, refl, sym, ap, subst, arith, lit≤}
 use Rattle.halo_outside.specs.Seen.{Contents}
 use Rattle.machine_spec.specs.declared.FaultKind.{FaultKind}
-use Rattle.halo_cli.specs.declared.endings.Ending.{Ending}
-use Rattle.halo_cli.specs.declared.endings.Ending.TheVariants.{Done, Usage, File, Plan, ReadFault, WriteFault, Memory, Exited, StillRunning, Fault, Illegal}
-use Rattle.halo_cli.specs.declared.endings.FileRefusal.{FileRefusal}
-use Rattle.halo_cli.specs.declared.endings.PlanRefusal.{PlanRefusal}
+use Rattle.endings.specs.declared.endings.Ending.{Ending}
+use Rattle.endings.specs.declared.endings.Ending.TheVariants.{Done, Usage, File, Plan, ReadFault, WriteFault, Memory, Exited, StillRunning, Fault, Illegal}
+use Rattle.endings.specs.declared.endings.BadFile.{BadFile}
+use Rattle.endings.specs.declared.endings.BadPlan.{BadPlan}
 use Rattle.halo_cli.specs.Words.{Asked, AsksFor, IsLine, IsFirstWrong}
-use Rattle.halo_cli.specs.Words.Asked.{Rewrite, Run}
-use Rattle.halo_cli.specs.Endings.{status_of}
+use Rattle.halo_cli.specs.Words.Asked.{Rewrite, Run, Show}
+use Rattle.endings.specs.Endings.{status_of}
+use Rattle.halo_cli.specs.Writing.{IsStop}
 use Rattle.halo_cli.specs.Run.{IsUnmoved}
 use Rattle.halo_cli.specs.Commands.{CommandComes, Brings, Leaves}
 use Rattle.halo_cli.specs.World.{Outside, World, OnlyMoves}
 use Rattle.halo_cli.specs.Ends.{HasCause, Ends, LineEnds, IsFinished}
 use Rattle.halo_cli.specs.Answers.{ToldBring, LineBrings, NotesLine, ReadFailed, OutFailed, NoteFailed, Gives, GivesIfRead, GivesIfRun, IsDone, Answers}
-use Rattle.halo_cli.proofs.Due.{MayWrite, brings_due, started_due, brings_lacking, asks_once, first_wrong_is_no_line, rewrite_never_exits, run_never_done}
+use Rattle.halo_cli.proofs.RewriteDue.{rewrite_never_exits}
+use Rattle.halo_cli.proofs.RunDue.{MayWrite, run_never_done}
+use Rattle.halo_cli.proofs.ShowDue.{show_never_exits}
+use Rattle.halo_cli.proofs.Due.{brings_due, started_due, brings_lacking, asks_once, first_wrong_is_no_line}
 
 -- each status is that of one kind of ending
 
@@ -22,11 +26,11 @@ is_usage : (ending : Ending) → status_of ending ≡ 64 → (place : ℕ) × (e
 is_usage (Usage place) is = (place, refl)
 is_usage ending is = absurd (omega arith)
 
-is_file : (ending : Ending) → status_of ending ≡ 65 → (why : FileRefusal) × (ending ≡ File why)
+is_file : (ending : Ending) → status_of ending ≡ 65 → (why : BadFile) × (ending ≡ File why)
 is_file (File why) is = (why, refl)
 is_file ending is = absurd (omega arith)
 
-is_plan : (ending : Ending) → status_of ending ≡ 66 → (why : PlanRefusal) × (ending ≡ Plan why)
+is_plan : (ending : Ending) → status_of ending ≡ 66 → (why : BadPlan) × (ending ≡ Plan why)
 is_plan (Plan why) is = (why, refl)
 is_plan ending is = absurd (omega arith)
 
@@ -118,13 +122,13 @@ module _ (words : List (List ℕ)) (before now : World) (ending : Ending) (statu
       let command = asked_by ending ends (λ e. other (sym (ap status_of is) ∙ e)) in
       (command.0, command.1, own command.0 (subst (λ e. HasCause command.0 before.outside now.outside e) is command.2.cause))
 
-  file_only : status ≡ 65 → (why : FileRefusal) × LineBrings words before now (File why) × NotesLine before now (File why)
+  file_only : status ≡ 65 → (why : BadFile) × LineBrings words before now (File why) × NotesLine before now (File why)
   file_only is =
       let by = by_status (λ e. omega arith) in
       let found = is_file ending (sym by.0 ∙ is) in
       (found.0, brought (File found.0) found.1 (λ asked cause. cause) (λ e. omega arith), subst (λ e. NotesLine before now e) found.1 by.1)
 
-  plan_only : status ≡ 66 → (why : PlanRefusal) × LineBrings words before now (Plan why) × NotesLine before now (Plan why)
+  plan_only : status ≡ 66 → (why : BadPlan) × LineBrings words before now (Plan why) × NotesLine before now (Plan why)
   plan_only is =
       let by = by_status (λ e. omega arith) in
       let found = is_plan ending (sym by.0 ∙ is) in
@@ -246,6 +250,9 @@ module _ (words : List (List ℕ)) (before now : World) (ending : Ending) (statu
       absurd (rewrite_never_exits plan file before.outside.files now.outside.files s n command.cause)
   done_command (Run steps file) Done zero line command finished = absurd (run_never_done steps file before.outside now.outside command.cause)
   done_command (Run steps file) (Exited s n) zero line command finished = (s, n, command.leaves.ran n refl, line)
+  done_command (Show file) Done zero line command finished = (finished.quiet refl, command.leaves.input, command.leaves.done refl)
+  done_command (Show file) (Exited s n) zero line command finished =
+      absurd (show_never_exits file before.outside.files now.outside.files s n command.cause)
   done_command asked ending zero line command finished = absurd (omega arith)
 
   done : status ≡ 0 → (asked : Asked) × AsksFor words asked × IsDone asked before now
@@ -255,18 +262,19 @@ module _ (words : List (List ℕ)) (before now : World) (ending : Ending) (statu
       let command = asked_by ending ends (λ e. omega (arith, zero, e)) in
       (command.0, command.1, done_command command.0 ending zero by.1 command.2 finished)
 
+  not_written : (ending : Ending) → (status_of ending ≡ 65) ⊎ (status_of ending ≡ 66) ⊎ (status_of ending ≡ 69) → IsStop ending
+  not_written (File why) one = (λ e. cc, λ e. cc)
+  not_written (Plan why) one = (λ e. cc, λ e. cc)
+  not_written Memory one = (λ e. cc, λ e. cc)
+  not_written ending (inl is) = absurd (omega arith)
+  not_written ending (inr (inl is)) = absurd (omega arith)
+  not_written ending (inr (inr is)) = absurd (omega arith)
+
   -- a refusal, and want of memory, leave input and out
   left_alone : (asked : Asked) (ending : Ending) → (status_of ending ≡ 65) ⊎ (status_of ending ≡ 66) ⊎ (status_of ending ≡ 69)
       → Leaves asked before.outside now.outside ending → IsUnmoved before.outside now.outside
   left_alone (Rewrite plan file) ending one leaves = (leaves.input, leaves.silent (not_written ending one))
-    where
-      not_written : (ending : Ending) → (status_of ending ≡ 65) ⊎ (status_of ending ≡ 66) ⊎ (status_of ending ≡ 69) → (ending ≢ Done) × (ending ≢ WriteFault)
-      not_written (File why) one = (λ e. cc, λ e. cc)
-      not_written (Plan why) one = (λ e. cc, λ e. cc)
-      not_written Memory one = (λ e. cc, λ e. cc)
-      not_written ending (inl is) = absurd (omega arith)
-      not_written ending (inr (inl is)) = absurd (omega arith)
-      not_written ending (inr (inr is)) = absurd (omega arith)
+  left_alone (Show file) ending one leaves = (leaves.input, leaves.silent (not_written ending one))
   left_alone (Run bound file) (File why) one leaves = leaves.silent (λ n after. after, λ e. cc) (λ e. cc)
   left_alone (Run bound file) (Plan why) one leaves = leaves.silent (λ n after. after, λ e. cc) (λ e. cc)
   left_alone (Run bound file) Memory one leaves = leaves.silent (λ n after. after, λ e. cc) (λ e. cc)

@@ -11,8 +11,9 @@ use Rattle.flat_machine.specs.declared.RunEnd.{RunEnd}
 use Rattle.flat_machine.specs.declared.RunEnd.TheVariants as run_end
 use Rattle.flat_machine.specs.Seen.{FlatSeen, between}
 use Rattle.flat_machine.specs.Runs.{run_from, IsRunning, WroteLast, EndsAs, Writes, Leaves, Ran as RanTo, Answers}
-use Rattle.halo_cli.specs.declared.endings.Ending.TheVariants.{File, ReadFault, WriteFault}
-use Rattle.halo_cli.specs.declared.endings.FileRefusal.TheVariants.{Elf}
+use Rattle.endings.specs.declared.endings.Ending.TheVariants.{File, ReadFault, WriteFault}
+use Rattle.endings.specs.declared.endings.BadFile.TheVariants.{Refused}
+use Rattle.exec_image.specs.declared.refusals.FileRefusal.TheVariants.{Elf}
 use Rattle.halo_cli.specs.Words.Asked.{Run}
 use Rattle.halo_cli.specs.World.{Outside, OnlyMoves}
 use Rattle.halo_cli.specs.Reads.{run_limit, IsRead}
@@ -88,7 +89,7 @@ module _ (bound : ℕ) (name file : List ℕ) (before now : Outside) (seen : Fla
   file_runs : (end : RunEnd) → Told end → EndsAs end bound seen → (n : ℕ) → IsAfter (ending_of_run end bound) n
       → FileRuns file (RunsTo before.input.told bound file) (ending_of_run end bound)
   file_runs end told facts n after =
-      subst (λ (found : Option ElfRefusal). MatchOption found (RunsTo before.input.told bound file (ending_of_run end bound)) (λ why. ending_of_run end bound ≡ File (Elf why)))
+      subst (λ (found : Option ElfRefusal). MatchOption found (RunsTo before.input.told bound file (ending_of_run end bound)) (λ why. ending_of_run end bound ≡ File (Refused (Elf why))))
       (sym none) (runs_to end told facts n after)
 
   -- all output of a run that wasn't cut off, and the rest of its input

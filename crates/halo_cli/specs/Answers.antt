@@ -1,16 +1,17 @@
 -- What the answer of the whole call means: the table of statuses.
 use Rattle.std.specs.Prelude.{◌≡◌, ℕ, ◌≤◌, ◌⊎◌, List, Some}
 use Rattle.halo_outside.specs.Seen.{Contents, Rose, Appends}
-use Rattle.halo_cli.specs.declared.endings.Ending.{Ending}
-use Rattle.halo_cli.specs.declared.endings.Ending.TheVariants.{Usage, File, Plan, ReadFault, Exited, StillRunning, Fault, Illegal}
-use Rattle.halo_cli.specs.declared.endings.FileRefusal.{FileRefusal}
-use Rattle.halo_cli.specs.declared.endings.PlanRefusal.{PlanRefusal}
+use Rattle.endings.specs.declared.endings.Ending.{Ending}
+use Rattle.endings.specs.declared.endings.Ending.TheVariants.{Usage, File, Plan, ReadFault, Exited, StillRunning, Fault, Illegal}
+use Rattle.endings.specs.declared.endings.BadFile.{BadFile}
+use Rattle.endings.specs.declared.endings.BadPlan.{BadPlan}
 use Rattle.machine_spec.specs.declared.FaultKind.{FaultKind}
 use Rattle.halo_cli.specs.Words.{Asked, AsksFor, IsLine, IsFirstWrong}
-use Rattle.halo_cli.specs.Words.Asked.{Rewrite, Run}
-use Rattle.halo_cli.specs.Endings.{status_of, line_of}
+use Rattle.halo_cli.specs.Words.Asked.{Rewrite, Run, Show}
+use Rattle.endings.specs.Endings.{status_of, line_of}
 use Rattle.halo_cli.specs.Rewrite.{RewriteWrites}
 use Rattle.halo_cli.specs.Run.{Ran, IsUnmoved}
+use Rattle.halo_cli.specs.Show.{ShowWrites}
 use Rattle.halo_cli.specs.Commands.{CommandComes, Brings, ReadFails}
 use Rattle.halo_cli.specs.World.{World, OnlyMoves, OnlyWrites}
 use Rattle.halo_cli.specs.Ends.{LineEnds, IsNoted}
@@ -50,8 +51,8 @@ GivesIfRead words want before now status = ((status ≡ 67) × ReadFailed words 
 abbrev pub GivesIfRun : List (List ℕ) → ℕ → World → World → ℕ → Type 0
 GivesIfRun words want before now status = ((status ≡ 68) × OutFailed before now) ⊎ GivesIfRead words want before now status
 
--- what stands after a command that is done: of `rewrite`, the new file is on out, and all else is as before;
--- of `run`, all that the program wrote up to its exit, and on note how it ended
+-- what stands after a command that is done: of `rewrite`, the new file is on out, and of `show` the summary, and
+-- all else is as before; of `run`, all that the program wrote up to its exit, and on note how it ended
 abbrev pub IsDone : Asked → World → World → Type 0
 IsDone (Rewrite plan file) before now = (now.note ≡ before.note) × (now.outside.input ≡ before.outside.input)
     × ((new : List ℕ) × RewriteWrites plan file before.outside.files now.outside.files new
@@ -59,6 +60,9 @@ IsDone (Rewrite plan file) before now = (now.note ≡ before.note) × (now.outsi
 IsDone (Run bound file) before now = (exit : ℕ) × (steps : ℕ)
     × Ran bound file before.outside now.outside (Exited exit steps) steps
     × NotesLine before now (Exited exit steps)
+IsDone (Show file) before now = (now.note ≡ before.note) × (now.outside.input ≡ before.outside.input)
+    × ((text : List ℕ) × ShowWrites file before.outside.files now.outside.files text
+    × Appends before.outside.out.told now.outside.out.told text)
 
 -- the table of statuses, for a line of words
 pub record Answers (words : List (List ℕ)) (before now : World) (status : ℕ) : Type 0 where
@@ -69,11 +73,11 @@ pub record Answers (words : List (List ℕ)) (before now : World) (status : ℕ)
   -- where they are no line, nothing is read or written but note
   pub untouched : (IsLine words → ⊥) → now.outside ≡ before.outside
   -- 65 exactly where what is read brings the line to a refusal of the file
-  pub file_only : status ≡ 65 → (why : FileRefusal) × LineBrings words before now (File why) × NotesLine before now (File why)
-  pub file_always : (why : FileRefusal) → ToldBring words before (File why) → GivesIfRead words 65 before now status
+  pub file_only : status ≡ 65 → (why : BadFile) × LineBrings words before now (File why) × NotesLine before now (File why)
+  pub file_always : (why : BadFile) → ToldBring words before (File why) → GivesIfRead words 65 before now status
   -- 66 exactly where it brings the line to a refusal of the plan
-  pub plan_only : status ≡ 66 → (why : PlanRefusal) × LineBrings words before now (Plan why) × NotesLine before now (Plan why)
-  pub plan_always : (why : PlanRefusal) → ToldBring words before (Plan why) → GivesIfRead words 66 before now status
+  pub plan_only : status ≡ 66 → (why : BadPlan) × LineBrings words before now (Plan why) × NotesLine before now (Plan why)
+  pub plan_always : (why : BadPlan) → ToldBring words before (Plan why) → GivesIfRead words 66 before now status
   -- 67 only where a read failed or told files lack one that is due to be read; and always in the second case
   pub read_only : status ≡ 67 → ReadFailed words before now ⊎ ToldBring words before ReadFault
   pub read_always : ToldBring words before ReadFault → Gives 67 before now status

@@ -2,7 +2,7 @@
 use Rattle.std.specs.Prelude.{◌≡◌, ◌≢◌, ℕ, ◌⊎◌, List, Some, codes, slice_get}
 use Rattle.text_fields.specs.Reading.{number_of}
 use Rattle.halo_cli.specs.Words.{Asked, default_steps, most_steps}
-use Rattle.halo_cli.specs.Words.Asked.{Rewrite, Run}
+use Rattle.halo_cli.specs.Words.Asked.{Rewrite, Run, Show}
 use Rattle.halo_cli.specs.declared.words.Command.{Command}
 use Rattle.halo_cli.specs.declared.words.Command.TheVariants as command
 
@@ -10,6 +10,7 @@ use Rattle.halo_cli.specs.declared.words.Command.TheVariants as command
 abbrev pub asked_by : Command → Asked
 asked_by (command.Rewrite plan file) = Rewrite plan.now file.now
 asked_by (command.Run steps file) = Run steps file.now
+asked_by (command.Show file) = Show file.now
 
 -- the steps that the words behind `run` give, and the place where its operand is due
 abbrev pub StepsAre : List (List ℕ) → ℕ → ℕ → Type 0

@@ -2,10 +2,10 @@
 use Rattle.std.specs.Prelude.{◌≡◌, ◌≢◌, ℕ, ◌⊎◌, List, []}
 use Rattle.halo_outside.specs.Seen.{SinkSeen, Rose, Appends, AppendsPrefix}
 use Rattle.halo_cli.specs.World.{Outside, OnlyMoves, OnlyWrites}
-use Rattle.halo_cli.specs.declared.endings.Ending.{Ending}
-use Rattle.halo_cli.specs.declared.endings.Ending.TheVariants.{Usage, ReadFault, WriteFault, Memory}
+use Rattle.endings.specs.declared.endings.Ending.{Ending}
+use Rattle.endings.specs.declared.endings.Ending.TheVariants.{Usage, ReadFault, WriteFault, Memory}
 use Rattle.halo_cli.specs.Words.{Asked, AsksFor, IsFirstWrong}
-use Rattle.halo_cli.specs.Endings.{status_of, line_of}
+use Rattle.endings.specs.Endings.{status_of, line_of}
 use Rattle.halo_cli.specs.Commands.{Brings, IsStarted, ReadFails, Leaves}
 
 -- the cause of an ending: what was read brings the command to it, or a count that rose

@@ -1,10 +1,12 @@
 -- The files that a command reads: their limits, the bytes that were read, and the cause of an ending.
-use Rattle.std.specs.Prelude.{◌≡◌, ℕ, ◌≤◌, ◌⊎◌, List, length}
-use Rattle.halo_outside.specs.Seen.{FilesSeen, count_after, Rose, IsToldAt}
-use Rattle.halo_cli.specs.declared.endings.Ending.{Ending}
-use Rattle.halo_cli.specs.declared.endings.Ending.TheVariants.{ReadFault, Memory}
+use Rattle.std.specs.Prelude.{◌≡◌, ℕ, ◌≤◌, ◌⊎◌, nat_lt, List, length, Option, None, Some}
+use Rattle.std.specs.Bool.{MatchBool}
+use Rattle.halo_outside.specs.Seen.{FilesSeen, count_after, Rose, IsToldAt, Lacks, IsTooLong}
+use Rattle.endings.specs.declared.endings.Ending.{Ending}
+use Rattle.endings.specs.declared.endings.Ending.TheVariants.{File, ReadFault, Memory}
+use Rattle.endings.specs.declared.endings.BadFile.TheVariants.{TooLong}
 
--- the most bytes of a plan's text, of a file that is rewritten and of one that is run
+-- the most bytes of a plan's text, of a file that is rewritten or shown and of one that is run
 abbrev pub plan_limit : ℕ
 plan_limit = 1048576
 
@@ -19,6 +21,17 @@ pub record IsRead (name : List ℕ) (limit : ℕ) (before now : FilesSeen) (byte
   pub told : IsToldAt before.told name bytes
   pub within : length bytes ≤ limit
   pub counted : now.taken ≡ count_after before.taken (length bytes)
+
+-- to which ending told contents bring a command that reads one more file: it is lacking, is longer than its
+-- limit, or its bytes decide
+abbrev pub FileComes : ℕ → Option (List ℕ) → (List ℕ → Ending → Type 0) → Ending → Type 0
+FileComes limit None Decide ending = ending ≡ ReadFault
+FileComes limit (Some file) Decide ending = MatchBool (nat_lt limit (length file)) (ending ≡ File TooLong) (Decide file ending)
+
+-- the ending of a command whose one file is lacking or longer than its limit
+abbrev pub IsNoFile : List ℕ → ℕ → FilesSeen → FilesSeen → Ending → Type 0
+IsNoFile name limit before now ending = ((ending ≡ ReadFault) × Lacks before.told name)
+    ⊎ ((ending ≡ File TooLong) × IsTooLong before.told name limit before.taken now.taken)
 
 -- what was read brings the command to the ending, or a read failed, or memory was wanting
 abbrev pub HasReadCause : (Ending → Type 0) → FilesSeen → FilesSeen → Ending → Type 0

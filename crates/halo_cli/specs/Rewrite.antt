@@ -1,86 +1,77 @@
 -- `rewrite PLAN FILE`: to which ending the files bring it, and what it writes.
-use Rattle.std.specs.Prelude.{◌≡◌, ◌≢◌, ℕ, ◌≤◌, ◌⊎◌, nat_lt, List, length, Option, None, Some, MatchOption}
+use Rattle.std.specs.Prelude.{◌≡◌, ℕ, ◌⊎◌, nat_lt, List, length, Option, None, Some}
 use Rattle.std.specs.Bool.{MatchBool}
-use Rattle.halo_outside.specs.Seen.{Contents, contents_of, FilesSeen, count_after, RoseBeyond, IsToldAt, Appends, AppendsPrefix}
-use Rattle.rewriter.specs.First.{FirstFile, FirstPlan}
-use Rattle.first_keeps.specs.Kept.{IsKeptRewrite}
-use Rattle.halo_cli.specs.declared.endings.Ending.{Ending}
-use Rattle.halo_cli.specs.declared.endings.Ending.TheVariants.{Done, File, Plan, ReadFault, WriteFault}
-use Rattle.halo_cli.specs.declared.endings.FileRefusal.TheVariants as file_refusal
-use Rattle.halo_cli.specs.declared.endings.PlanRefusal.TheVariants as plan_refusal
-use Rattle.halo_cli.specs.Reads.{plan_limit, file_limit}
-use Rattle.halo_cli.specs.World.{Outside}
+use Rattle.halo_outside.specs.Seen.{Contents, contents_of, FilesSeen, IsTooLong, Lacks}
+use Rattle.plan_core.specs.declared.types.Plan as types
+use Rattle.plan_core.specs.declared.refusals.PlanRefusal.TheVariants.{Line, TooMany}
+use Rattle.plan_core.specs.Plan.{IsPlan, plan_text}
+use Rattle.plan_core.specs.Grammar.{FirstBad, FirstOver}
+use Rattle.rewriter.specs.declared.refusal.RewriteRefusal.{RewriteRefusal}
+use Rattle.rewriter.specs.declared.refusal.RewriteRefusal.TheVariants as refusal
+use Rattle.rewriter.specs.Rewrites.{rewrite_refusal, IsRewritten}
+use Rattle.endings.specs.declared.endings.Ending.{Ending}
+use Rattle.endings.specs.declared.endings.Ending.TheVariants.{Done, File, Plan, ReadFault, Memory}
+use Rattle.endings.specs.declared.endings.BadFile.TheVariants as bad_file
+use Rattle.endings.specs.declared.endings.BadPlan.TheVariants as bad_plan
+use Rattle.halo_cli.specs.Reads.{plan_limit, file_limit, FileComes, IsNoFile, IsRead}
 
--- the file is refused
-abbrev pub bad_file : Ending
-bad_file = File file_refusal.NotFirstForm
+-- the text is that of this plan, which has no more sites and rows than are taken
+abbrev pub IsTextOf : List ℕ → types.Plan → Type 0
+IsTextOf text plan = IsPlan plan × (text ≡ plan_text plan)
 
--- the plan is refused
-abbrev pub bad_plan : Ending
-bad_plan = Plan plan_refusal.NotFirstForm
+-- the ending of a file and a plan, by what refuses them, which is never want of memory
+abbrev pub rewrite_ending : Option RewriteRefusal → Ending
+rewrite_ending None = Done
+rewrite_ending (Some (refusal.File why)) = File (bad_file.Refused why)
+rewrite_ending (Some (refusal.Plan why)) = Plan (bad_plan.Misfit why)
+rewrite_ending (Some (refusal.NotYet at)) = File (bad_file.NotYet at)
+rewrite_ending (Some refusal.Memory) = Memory
 
--- the ending of a file and a plan's text within their limits: the file's form is looked at first
-abbrev pub FormsCome : List ℕ → List ℕ → Ending → Type 0
-FormsCome file plan ending = ((ending ≡ bad_file) × (FirstFile file → ⊥))
-    ⊎ ((ending ≡ bad_plan) × FirstFile file × (FirstPlan file plan → ⊥))
-    ⊎ ((ending ≡ Done) × FirstFile file × FirstPlan file plan)
-
--- to which ending the file comes, which is read after the plan
-abbrev pub FileComes : Option (List ℕ) → List ℕ → Ending → Type 0
-FileComes None plan ending = ending ≡ ReadFault
-FileComes (Some file) plan ending =
-    MatchBool (nat_lt file_limit (length file)) (ending ≡ bad_file) (FormsCome file plan ending)
+-- the ending of a plan's text and a file within their limits: the text is looked at first, up to the
+-- lowest line that isn't admitted or is one too many, and then the file and the plan of the text
+abbrev pub TextComes : List ℕ → List ℕ → Ending → Type 0
+TextComes text file ending = ((n : ℕ) × (ending ≡ Plan (bad_plan.Text (Line n))) × FirstBad text n)
+    ⊎ ((n : ℕ) × (ending ≡ Plan (bad_plan.Text (TooMany n))) × FirstOver text n)
+    ⊎ ((plan : types.Plan) × (ending ≡ rewrite_ending (rewrite_refusal file plan)) × IsTextOf text plan)
 
 -- to which ending the plan and the file come, in the order of the reads
 abbrev pub OperandsCome : Option (List ℕ) → Option (List ℕ) → Ending → Type 0
 OperandsCome None file ending = ending ≡ ReadFault
-OperandsCome (Some plan) file ending =
-    MatchBool (nat_lt plan_limit (length plan)) (ending ≡ bad_plan) (FileComes file plan ending)
+OperandsCome (Some text) file ending =
+    MatchBool (nat_lt plan_limit (length text)) (ending ≡ Plan bad_plan.TooLong) (FileComes file_limit file (TextComes text) ending)
 
 -- to which ending told contents bring the command
 abbrev pub RewriteComes : List ℕ → List ℕ → Contents → Ending → Type 0
 RewriteComes plan_name file_name contents ending =
     OperandsCome (contents_of contents plan_name) (contents_of contents file_name) ending
 
--- the plan's text and the file that were read: those told, where contents are told, within their limits and counted
-pub record AreRead (plan_name file_name : List ℕ) (before now : FilesSeen) (plan file : List ℕ) : Type 0 where
-  pub plan_told : IsToldAt before.told plan_name plan
-  pub file_told : IsToldAt before.told file_name file
-  pub plan_within : length plan ≤ plan_limit
-  pub file_within : length file ≤ file_limit
-  pub counted : now.taken ≡ count_after (count_after before.taken (length plan)) (length file)
+-- the ending of the command where its plan is lacking or longer than its limit
+abbrev pub IsNoPlan : List ℕ → FilesSeen → FilesSeen → Ending → Type 0
+IsNoPlan name before now ending = ((ending ≡ ReadFault) × Lacks before.told name)
+    ⊎ ((ending ≡ Plan bad_plan.TooLong) × IsTooLong before.told name plan_limit before.taken now.taken)
 
--- a read took more bytes than its limit: that of the plan, or that of the file after a plan
-abbrev pub TookTooMany : FilesSeen → FilesSeen → Ending → Type 0
-TookTooMany before now ending = ((ending ≡ bad_plan) × RoseBeyond plan_limit before.taken now.taken)
-    ⊎ ((ending ≡ bad_file) × ((plan : List ℕ) × (length plan ≤ plan_limit)
-    × RoseBeyond file_limit (count_after before.taken (length plan)) now.taken))
+-- the plan's text was read first
+pub record IsPlanRead (name : List ℕ) (before between : FilesSeen) (text : List ℕ) : Type 0 where
+  pub read : IsRead name plan_limit before between text
+  pub told : between.told ≡ before.told
 
--- to which ending the bytes that were read bring the command, where no contents are told
-abbrev pub RewriteReads : List ℕ → List ℕ → FilesSeen → FilesSeen → Ending → Type 0
-RewriteReads plan_name file_name before now ending = TookTooMany before now ending
-    ⊎ ((plan : List ℕ) × (file : List ℕ)
-    × AreRead plan_name file_name before now plan file × FormsCome file plan ending)
+-- the plan's text and then the file were read
+abbrev pub AreRead : List ℕ → List ℕ → FilesSeen → FilesSeen → List ℕ → List ℕ → Type 0
+AreRead plan_name file_name before now text file =
+    (between : FilesSeen) × IsPlanRead plan_name before between text × IsRead file_name file_limit between now file
 
--- to which ending the files bring the command
+-- to which ending what was read brings the command
 abbrev pub RewriteBrings : List ℕ → List ℕ → FilesSeen → FilesSeen → Ending → Type 0
-RewriteBrings plan_name file_name before now ending =
-    MatchOption before.told (RewriteReads plan_name file_name before now ending) (λ contents. RewriteComes plan_name file_name contents ending)
+RewriteBrings plan_name file_name before now ending = IsNoPlan plan_name before now ending
+    ⊎ ((between : FilesSeen) × (text : List ℕ)
+    × IsPlanRead plan_name before between text × IsNoFile file_name file_limit between now ending)
+    ⊎ ((text : List ℕ) × (file : List ℕ) × AreRead plan_name file_name before now text file × TextComes text file ending)
 
--- what the command writes: the new file of what was read, which keeps the behaviour of the file
+-- the new file is the file, rewritten by the plan of the text
+abbrev pub Makes : List ℕ → List ℕ → List ℕ → Type 0
+Makes text file new = (plan : types.Plan) × IsTextOf text plan × IsRewritten file plan new
+
+-- what the command writes: the new file of what was read
 abbrev pub RewriteWrites : List ℕ → List ℕ → FilesSeen → FilesSeen → List ℕ → Type 0
-RewriteWrites plan_name file_name before now new = (plan : List ℕ) × (file : List ℕ)
-    × AreRead plan_name file_name before now plan file × IsKeptRewrite file plan new
-
--- an ending before anything was written
-abbrev pub IsStop : Ending → Type 0
-IsStop ending = (ending ≢ Done) × (ending ≢ WriteFault)
-
--- what the command does to input and out, by how it ends
-pub record RewriteLeaves (plan_name file_name : List ℕ) (before now : Outside) (ending : Ending) : Type 0 where
-  pub input : now.input ≡ before.input
-  pub done : ending ≡ Done → (new : List ℕ)
-      × RewriteWrites plan_name file_name before.files now.files new × Appends before.out.told now.out.told new
-  pub write_fault : ending ≡ WriteFault → (new : List ℕ)
-      × RewriteWrites plan_name file_name before.files now.files new × AppendsPrefix before.out.told now.out.told new
-  pub silent : IsStop ending → now.out ≡ before.out
+RewriteWrites plan_name file_name before now new = (text : List ℕ) × (file : List ℕ)
+    × AreRead plan_name file_name before now text file × Makes text file new

@@ -1,19 +1,19 @@
 -- `run [--steps N] FILE`: to which ending the file and the input bring it, and what it does to input
 -- and out.
-use Rattle.std.specs.Prelude.{◌≡◌, ◌≢◌, ℕ, ◌+◌, ◌<◌, ◌≤◌, ◌⊎◌, nat_lt, List, ◌++◌, length, Option, None, Some, MatchOption}
-use Rattle.std.specs.Bool.{MatchBool}
-use Rattle.halo_outside.specs.Seen.{FilesSeen, Contents, contents_of, Lacks, IsTooLong, Rose, Appends, AppendsPrefix}
+use Rattle.std.specs.Prelude.{◌≡◌, ◌≢◌, ℕ, ◌+◌, ◌<◌, ◌≤◌, ◌⊎◌, List, ◌++◌, Option, None, Some, MatchOption}
+use Rattle.halo_outside.specs.Seen.{FilesSeen, Contents, contents_of, Rose, Appends, AppendsPrefix}
 use Rattle.elf_read.specs.Refusals.{refusal}
 use Rattle.machine_spec.specs.declared.Ending as machine_ending
 use Rattle.machine_spec.specs.declared.Ending.TheVariants as machine
 use Rattle.flat_spec.specs.Machine.{start}
 use Rattle.flat_spec.specs.Runs.{flat_run}
 use Rattle.flat_machine.specs.Runs.{WroteLast}
-use Rattle.halo_cli.specs.declared.endings.Ending.{Ending}
-use Rattle.halo_cli.specs.declared.endings.Ending.TheVariants.{File, ReadFault, WriteFault, Exited, StillRunning, Fault, Illegal}
-use Rattle.halo_cli.specs.declared.endings.FileRefusal.TheVariants.{TooLong, Elf}
+use Rattle.endings.specs.declared.endings.Ending.{Ending}
+use Rattle.endings.specs.declared.endings.Ending.TheVariants.{File, ReadFault, WriteFault, Exited, StillRunning, Fault, Illegal}
+use Rattle.endings.specs.declared.endings.BadFile.TheVariants.{Refused}
+use Rattle.exec_image.specs.declared.refusals.FileRefusal.TheVariants.{Elf}
 use Rattle.halo_cli.specs.World.{Outside}
-use Rattle.halo_cli.specs.Reads.{run_limit, IsRead}
+use Rattle.halo_cli.specs.Reads.{run_limit, FileComes, IsRead, IsNoFile}
 
 -- the machine after so many turns of a file on an input: how it ended, if it did
 abbrev pub ending_at : List ℕ → List ℕ → ℕ → machine_ending.Ending
@@ -49,20 +49,17 @@ IsLoadEnding ending = ((n : ℕ) → IsAfter ending n → ⊥) × (ending ≢ Wr
 
 -- a file within its limit is refused by the reader's first check that it fails, or runs
 abbrev pub FileRuns : List ℕ → (Ending → Type 0) → Ending → Type 0
-FileRuns file Runs ending = MatchOption (refusal file) (Runs ending) (λ why. ending ≡ File (Elf why))
+FileRuns file Runs ending = MatchOption (refusal file) (Runs ending) (λ why. ending ≡ File (Refused (Elf why)))
 
--- to which ending told contents and a told input bring the command
-abbrev pub FileComes : Option (List ℕ) → (List ℕ → Ending → Type 0) → Ending → Type 0
-FileComes None Runs ending = ending ≡ ReadFault
-FileComes (Some file) Runs ending =
-    MatchBool (nat_lt run_limit (length file)) (ending ≡ File TooLong) (FileRuns file (Runs file) ending)
-
+-- to which ending a told input brings the run of a file; where it isn't told, none is due
 abbrev pub InputEnds : Option (List ℕ) → ℕ → List ℕ → Ending → Type 0
 InputEnds None bound file ending = ⊥
 InputEnds (Some given) bound file ending = IsRunEnd file given bound ending
 
+-- to which ending told contents and a told input bring the command
 abbrev pub RunComes : ℕ → List ℕ → Contents → Option (List ℕ) → Ending → Type 0
-RunComes steps name contents input ending = FileComes (contents_of contents name) (InputEnds input steps) ending
+RunComes steps name contents input ending =
+    FileComes run_limit (contents_of contents name) (λ file. FileRuns file (InputEnds input steps file)) ending
 
 -- an ending that a run of at most `bound` turns may have, whatever its input
 abbrev pub MayRunTo : ℕ → Ending → Type 0
@@ -77,18 +74,14 @@ abbrev pub RunsTo : Option (List ℕ) → ℕ → List ℕ → Ending → Type 0
 RunsTo None bound file ending = MayRunTo bound ending
 RunsTo (Some given) bound file ending = IsRunEnd file given bound ending
 
-abbrev pub IsNoFile : List ℕ → FilesSeen → FilesSeen → Ending → Type 0
-IsNoFile name before now ending = ((ending ≡ ReadFault) × Lacks before.told name)
-    ⊎ ((ending ≡ File TooLong) × IsTooLong before.told name run_limit before.taken now.taken)
-
 abbrev pub RunBrings : ℕ → List ℕ → Outside → Outside → Ending → Type 0
-RunBrings steps name before now ending = IsNoFile name before.files now.files ending
+RunBrings steps name before now ending = IsNoFile name run_limit before.files now.files ending
     ⊎ ((file : List ℕ) × IsRead name run_limit before.files now.files file
     × FileRuns file (RunsTo before.input.told steps file) ending)
 
 -- to which ending the file brings the command before anything runs: it is lacking, too long or refused
 abbrev pub LoadBrings : List ℕ → FilesSeen → FilesSeen → Ending → Type 0
-LoadBrings name before now ending = IsNoFile name before now ending
+LoadBrings name before now ending = IsNoFile name run_limit before now ending
     ⊎ ((file : List ℕ) × IsRead name run_limit before now file × FileRuns file (λ e. ⊥) ending)
 
 -- the file was read, and no check refuses it

@@ -2,8 +2,8 @@
 use Rattle.std.specs.Prelude.{ℕ}
 use Rattle.flat_machine.specs.declared.RunEnd.{RunEnd}
 use Rattle.flat_machine.specs.declared.RunEnd.TheVariants as end
-use Rattle.halo_cli.specs.declared.endings.Ending.{Ending}
-use Rattle.halo_cli.specs.declared.endings.Ending.TheVariants.{ReadFault, WriteFault, Exited, StillRunning, Fault, Illegal}
+use Rattle.endings.specs.declared.endings.Ending.{Ending}
+use Rattle.endings.specs.declared.endings.Ending.TheVariants.{ReadFault, WriteFault, Exited, StillRunning, Fault, Illegal}
 
 -- by the answer of a run of at most so many steps
 abbrev pub ending_of_run : RunEnd → ℕ → Ending

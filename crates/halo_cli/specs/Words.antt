@@ -1,4 +1,4 @@
--- The grammar of the command line: `rewrite PLAN FILE` and `run [--steps N] FILE`.
+-- The grammar of the command line: `rewrite PLAN FILE`, `run [--steps N] FILE` and `show FILE`.
 use Rattle.std.specs.Prelude.{◌≡◌, ◌≢◌, ℕ, ◌+◌, ◌⊎◌, List, [], ◌∷◌, ◌++◌, length, take, map, slice_get, Some, codes, string_bytes, String}
 use Rattle.std.specs.declared.alloc.Global.{Global}
 use Rattle.text_fields.specs.Reading.{number_of}
@@ -16,10 +16,12 @@ IsOperand (first ∷ rest) = first ≢ 45
 abbrev pub IsOperandAt : List (List ℕ) → ℕ → List ℕ → Type 0
 IsOperandAt words place word = (slice_get words place ≡ Some word) × IsOperand word
 
--- what a line can ask for: the new file of a plan and a file, or a run of a file for so many steps
+-- what a line can ask for: the new file of a plan and a file, a run of a file for so many steps, or the
+-- summary of a file
 pub data Asked : Type 0 where
   Rewrite : (plan file : List ℕ) → Asked
   Run : (steps : ℕ) (file : List ℕ) → Asked
+  Show : (file : List ℕ) → Asked
 
 -- the steps of a line without the option, and the most that it may give
 abbrev pub default_steps : ℕ
@@ -40,6 +42,7 @@ abbrev pub AsksFor : List (List ℕ) → Asked → Type 0
 AsksFor words (Rewrite plan file) = (words ≡ codes "rewrite" ∷ plan ∷ file ∷ []) × IsOperand plan × IsOperand file
 AsksFor words (Run steps file) =
     (options : List (List ℕ)) × (words ≡ codes "run" ∷ options ++ file ∷ []) × AreSteps options steps × IsOperand file
+AsksFor words (Show file) = (words ≡ codes "show" ∷ file ∷ []) × IsOperand file
 
 -- the words are a line of the grammar
 abbrev pub IsLine : List (List ℕ) → Type 0

@@ -4,41 +4,43 @@
 ghost use Rattle.halo_cli.specs.Words.{texts};
 ghost use Rattle.halo_cli.specs.Answers.{Answers};
 
-mod endings;
 mod headline;
+mod limits;
 mod line;
 mod note;
 mod rewrite;
 mod run;
-#[cfg(test)]
-mod tests;
+mod show;
 mod words;
 
-pub use endings::{Ending, FileRefusal, PlanRefusal};
 use halo_outside::{Files, Sink, Source};
-pub use headline::new_files_do_the_same;
+pub use headline::{new_files_are_taken_by_run, new_files_do_the_same};
 use std::alloc::Global;
 
 /// Runs the program on the words of its command line, without its own name, and gives the status with
 /// which it ends.
 ///
-/// `rewrite PLAN FILE` writes the file, changed as the plan says, to `out`. The crate `rewriter` says
-/// which files and plans are of the first form. The input isn't read.
+/// `rewrite PLAN FILE` writes the file, changed as the plan says, to `out`. It takes the files that
+/// `exec_image` accepts and the plans that fit them, but for code that isn't rewritten yet: heap
+/// functions, pair sites, and other instructions than the ten that `rewriter` names. The input isn't
+/// read.
 ///
 /// `run [--steps N] FILE` runs the file, as it is, on the flat machine, with the program's input from
 /// `input` and its output to `out`. N is from 0 to 4294967295, and 100000000 where it isn't given. All
 /// memory is taken before the machine starts. The file may be any 32-bit ELF executable for RISC-V that
 /// `elf_read` reads.
 ///
-/// One line on `note` says how the command ended, unless `rewrite` is done. It is tried after a failed
+/// `show FILE` writes the summary of a file that `exec_image` accepts to `out`. The input isn't read.
+///
+/// One line on `note` says how the command ended, unless `rewrite` or `show` is done. It is tried after a failed
 /// `out`, too.
 ///
 /// | Status | Line on note | Comes |
 /// |---|---|---|
 /// | 0 | none; of `run`, `exit S after N steps` | the command is done; the program exits with status S at step N |
 /// | 64 | `halo: usage: word K` | the words are no line; K is the place, from 0, of the first wrong word, or the number of words |
-/// | 65 | `halo: file: TEXT` | the file is longer than 33554432 bytes or isn't of the first form; of `run`, it is longer than 34603008 bytes or isn't readable |
-/// | 66 | `halo: plan: not this form` | the plan's text is longer than 1048576 bytes, or isn't of the first form for the file |
+/// | 65 | `halo: file: TEXT` | the file is longer than 33554432 bytes, isn't accepted, or isn't rewritten yet; of `run`, it is longer than 34603008 bytes or isn't readable |
+/// | 66 | `halo: plan: TEXT` | the plan's text is longer than 1048576 bytes or isn't in its grammar, or the plan doesn't fit the file |
 /// | 67 | `halo: read failed` | a file is missing or couldn't be read, or the input couldn't be read |
 /// | 68 | `halo: write failed` | `out` or `note` failed |
 /// | 69 | `halo: out of memory` | there was no memory |

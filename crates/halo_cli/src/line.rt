@@ -3,10 +3,11 @@ ghost use Rattle.halo_outside.specs.Seen.{FilesSeen, SourceSeen, SinkSeen};
 ghost use Rattle.halo_cli.specs.Words.{texts};
 ghost use Rattle.halo_cli.specs.Ends.{LineEnds};
 
-use crate::endings::Ending;
 use crate::rewrite::rewrite_file;
 use crate::run::run_file;
+use crate::show::show_file;
 use crate::words::{Command, parse};
+use endings::Ending;
 use halo_outside::{Files, Sink, Source};
 use std::alloc::Global;
 
@@ -26,5 +27,6 @@ pub fn run_line<F: Files, I: Source, O: Sink>(
         Err(place) => Ending::Usage(place),
         Ok(Command::Rewrite { plan, file }) => rewrite_file(alloc, plan, file, files, out),
         Ok(Command::Run { steps, file }) => run_file(alloc, steps, file, files, input, out),
+        Ok(Command::Show { file }) => show_file(alloc, file, files, out),
     }
 }

@@ -1,23 +1,21 @@
 // `rewrite PLAN FILE`: reads the plan and the file, makes the new file and writes it.
-ghost use Rattle.std.specs.Prelude.{IfOk, IfErr};
+ghost use Rattle.std.specs.Prelude.{◌≡◌, ◌≤◌, ◌⊎◌, length, IfOk, IfErr};
 ghost use Rattle.halo_outside.specs.Seen.{FilesSeen, SourceSeen, SinkSeen};
-ghost use Rattle.halo_cli.specs.declared.endings.Ending.TheVariants.{Done};
+ghost use Rattle.rewriter.specs.Rewrites.{rewrite_refusal};
+ghost use Rattle.endings.specs.declared.endings.Ending.TheVariants.{Done};
 ghost use Rattle.halo_cli.specs.Words.Asked.{Rewrite};
 ghost use Rattle.halo_cli.specs.Reads.{HasReadCause};
-ghost use Rattle.halo_cli.specs.Rewrite.{RewriteBrings, RewriteWrites, IsStop};
+ghost use Rattle.halo_cli.specs.Rewrite.{AreRead, Makes, RewriteBrings, RewriteWrites, TextComes, rewrite_ending};
+ghost use Rattle.halo_cli.specs.Writing.{IsStop};
 ghost use Rattle.halo_cli.specs.World.{OnlyReads};
 ghost use Rattle.halo_cli.specs.Ends.{Ends};
 
-use crate::endings::{Ending, FileRefusal, PlanRefusal};
+use crate::limits::{FILE_LIMIT, PLAN_LIMIT};
+use endings::{BadFile, BadPlan, Ending};
 use halo_outside::{Failed, FileFault, Files, Sink, write_all};
-use rewriter::{FirstRefusal, rewrite_first};
+use plan_core::{PlanRefusal, read_plan};
+use rewriter::{RewriteRefusal, rewrite};
 use std::alloc::Global;
-
-/// The most bytes of a plan's text.
-const PLAN_LIMIT: usize = 1048576;
-
-/// The most bytes of a file.
-const FILE_LIMIT: usize = 33554432;
 
 /// Writes the new file of the file under the plan to `out`. The plan is read first. No input is read.
 pub fn rewrite_file<F: Files, O: Sink>(
@@ -57,22 +55,38 @@ fn make_new_file<F: Files>(
         (RewriteBrings plan_name.now file_name.now (F.seen files.old) (F.seen files.new))
         (F.seen files.old) (F.seen files.new)) }
 {
-    let plan = match files.read(alloc, plan_name, PLAN_LIMIT) {
-        Ok(plan) => plan,
+    let text = match files.read(alloc, plan_name, PLAN_LIMIT) {
+        Ok(text) => text,
         Err(FileFault::Failed) => return Err(Ending::ReadFault),
-        Err(FileFault::TooLong) => return Err(Ending::Plan(PlanRefusal::NotFirstForm)),
+        Err(FileFault::TooLong) => return Err(Ending::Plan(BadPlan::TooLong)),
         Err(FileFault::Memory) => return Err(Ending::Memory),
     };
     let file = match files.read(alloc, file_name, FILE_LIMIT) {
         Ok(file) => file,
         Err(FileFault::Failed) => return Err(Ending::ReadFault),
-        Err(FileFault::TooLong) => return Err(Ending::File(FileRefusal::NotFirstForm)),
+        Err(FileFault::TooLong) => return Err(Ending::File(BadFile::TooLong)),
         Err(FileFault::Memory) => return Err(Ending::Memory),
     };
-    match rewrite_first(alloc, &file, &plan) {
+    new_file(alloc, &text, &file)
+}
+
+// The new file of a plan's text and a file, or how the command ends without one.
+fn new_file(alloc: Global, text: &[u8], file: &[u8]) -> Result<Vec<u8>, Ending>
+    requires { length file.now ≤ 33554432 }
+    ensures made { IfOk result (λ new. Makes text.now file.now new.items) }
+    ensures stops { IfErr result IsStop }
+    ensures cause { IfErr result (λ e. TextComes text.now file.now e ⊎ (e ≡ Ending.Memory)) }
+{
+    let plan = match read_plan(alloc, text) {
+        Ok(plan) => plan,
+        Err(PlanRefusal::Memory) => return Err(Ending::Memory),
+        Err(why) => return Err(Ending::Plan(BadPlan::Text(why))),
+    };
+    match rewrite(alloc, file, &plan) {
         Ok(new) => Ok(new),
-        Err(FirstRefusal::File) => Err(Ending::File(FileRefusal::NotFirstForm)),
-        Err(FirstRefusal::Plan) => Err(Ending::Plan(PlanRefusal::NotFirstForm)),
-        Err(FirstRefusal::Memory) => Err(Ending::Memory),
+        Err(RewriteRefusal::File(why)) => Err(Ending::File(BadFile::Refused(why))),
+        Err(RewriteRefusal::Plan(why)) => Err(Ending::Plan(BadPlan::Misfit(why))),
+        Err(RewriteRefusal::NotYet(at)) => Err(Ending::File(BadFile::NotYet(at))),
+        Err(RewriteRefusal::Memory) => Err(Ending::Memory),
     }
 }

@@ -12,15 +12,14 @@ ghost use Rattle.halo_cli.specs.RunEnds.{ending_of_run};
 ghost use Rattle.halo_cli.specs.World.{OnlyReads};
 ghost use Rattle.halo_cli.specs.Ends.{Ends};
 
-use crate::endings::{Ending, FileRefusal};
+use crate::limits::RUN_LIMIT;
 use elf_read::{ElfRefusal, read_elf};
+use endings::{BadFile, Ending};
+use exec_image::FileRefusal;
 use flat_machine::{Flat, RunEnd, run_flat, start};
 use flat_mem::load;
 use halo_outside::{FileFault, Files, Sink, Source};
 use std::alloc::Global;
-
-/// The most bytes of a file that is run.
-const RUN_LIMIT: usize = 34603008;
 
 /// Runs the file for at most so many steps, with this input and output. All memory is taken before
 /// the machine starts.
@@ -58,13 +57,13 @@ fn load_machine<F: Files>(alloc: Global, name: &str, files: &mut F) -> Result<Fl
     let file = match files.read(alloc, name, RUN_LIMIT) {
         Ok(file) => file,
         Err(FileFault::Failed) => return Err(Ending::ReadFault),
-        Err(FileFault::TooLong) => return Err(Ending::File(FileRefusal::TooLong)),
+        Err(FileFault::TooLong) => return Err(Ending::File(BadFile::TooLong)),
         Err(FileFault::Memory) => return Err(Ending::Memory),
     };
     let elf = match read_elf(alloc, &file) {
         Ok(elf) => elf,
         Err(ElfRefusal::Memory) => return Err(Ending::Memory),
-        Err(why) => return Err(Ending::File(FileRefusal::Elf(why))),
+        Err(why) => return Err(Ending::File(BadFile::Refused(FileRefusal::Elf(why)))),
     };
     match load(alloc, &elf, &file) {
         Ok(memory) => Ok(start(memory, elf.entry)),

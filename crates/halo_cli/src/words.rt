@@ -13,6 +13,8 @@ pub enum Command<'a> {
     Rewrite { plan: &'a str, file: &'a str },
     /// `run [--steps N] FILE`: the most steps, and the name of the file.
     Run { steps: u32, file: &'a str },
+    /// `show FILE`: the name of the file.
+    Show { file: &'a str },
 }
 
 /// The steps of a line that doesn't give them.
@@ -30,6 +32,7 @@ pub fn parse(words: &[String]) -> Result<Command<'_>, u64>
     match command.as_str() {
         "rewrite" => parse_rewrite(words),
         "run" => parse_run(words),
+        "show" => parse_show(words),
         _ => Err(0),
     }
 }
@@ -66,6 +69,21 @@ fn parse_run(words: &[String]) -> Result<Command<'_>, u64>
         return Err(place as u64 + 1);
     }
     Ok(Command::Run { steps, file })
+}
+
+// Reads a line whose first word is `show`.
+fn parse_show(words: &[String]) -> Result<Command<'_>, u64>
+    requires { slice_get (texts words.now) 0 ≡ Some (codes "show") }
+    ensures line { IfOk result (λ command. AsksFor (texts words.now) (asked_by command)) }
+    ensures wrong { IfErr result (λ place. IsFirstWrong (texts words.now) place) }
+{
+    let Some(file) = operand(words, 1) else {
+        return Err(1);
+    };
+    if words.len() > 2 {
+        return Err(2);
+    }
+    Ok(Command::Show { file })
 }
 
 // The steps of a line whose first word is `run`, and the place of its operand.

@@ -1,2 +1,8 @@
 mod First
 pub mod Sections
+pub mod ListTests
+mod Covered
+mod Once
+mod KeptTables
+mod Searched
+mod BadEntries

@@ -4,7 +4,7 @@ use Rattle.std.proofs.lemmas.Bool.{cases_lt}
 use Rattle.elf_spec.specs.Records.{e_phnum, e_phoff, e_shnum, e_shoff, section_at, segment_at}
 use Rattle.elf_read.specs.declared.elf_file.Elf.{Elf}
 use Rattle.elf_read.proofs.Entries.{length-entries}
-use Rattle.reloc_table.specs.ReadFrom.{IsReadFrom}
+use Rattle.elf_read.specs.Elf.{IsReadFrom}
 
 few_of : (n at bytes : ℕ) → bytes < 2 ^ 32 → (0 < n → at + 40 * n ≤ bytes) → n < 2 ^ 32
 few_of n at bytes s t = elim (cases_lt 0 n) [

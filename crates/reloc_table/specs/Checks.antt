@@ -37,3 +37,7 @@ is_tls r = list_any (λ kind. kind == r.kind) tls_kinds
 
 abbrev pub is_compressed : Reloc → Bool
 is_compressed r = list_any (λ kind. kind == r.kind) compressed_kinds
+
+-- an entry of a file with so many symbols is refused
+abbrev pub is_bad : (symbols : ℕ) → Reloc → Bool
+is_bad symbols r = is_symbol_out symbols r || (is_tls r || is_compressed r)

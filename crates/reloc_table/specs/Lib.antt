@@ -1,3 +1,5 @@
 pub mod Checks
 pub mod Refusals
-pub mod ReadFrom
+pub mod Reads
+pub mod Slots
+pub mod IsRelocs

@@ -1,6 +1,6 @@
 -- Why the relocations of a file are refused: the first check that they fail, with its item, and the
 -- lowest index.
-use Rattle.std.specs.Prelude.{◌≡◌, ℕ, zero, suc, ◌+◌, ◌*◌, ◌/◌, Bool, not, List, [], ◌∷◌, length, Option, Some, None, option_map, position, Result, Ok, Err, if◌then◌else◌}
+use Rattle.std.specs.Prelude.{ℕ, zero, suc, ◌+◌, ◌*◌, ◌/◌, not, List, [], ◌∷◌, length, Option, None, option_map, position, if◌then◌else◌}
 use Rattle.std.specs.List.{list_any}
 use Rattle.reloc_table.specs.declared.refusals.RelocRefusal.{RelocRefusal}
 use Rattle.reloc_table.specs.declared.refusals.RelocRefusal.TheVariants.{NoRelocs, EntrySize, SymbolOut, Tls, Compressed}
@@ -9,16 +9,8 @@ use Rattle.elf_spec.specs.declared.Reloc.{Reloc}
 use Rattle.elf_spec.specs.Records.{reloc_at, sections_of}
 use Rattle.elf_spec.specs.Relocations.{is_kept_rela}
 use Rattle.elf_spec.specs.Tables.{symbols_of}
+use Rattle.elf_read.specs.Refusals.{◌or_else◌, when}
 use Rattle.reloc_table.specs.Checks.{has_bad_entries, is_compressed, is_for_code, is_symbol_out, is_tls}
-
--- the first refusal of two
-infixr 5 ◌or_else◌
-abbrev pub ◌or_else◌ : {A : Type 0} → Option A → Option A → Option A
-None or_else q = q
-(Some why) or_else q = Some why
-
-abbrev pub when : {A : Type 0} → Bool → A → Option A
-when b why = if b then Some why else None
 
 -- the first refusal of numbers below n
 abbrev pub first_of : {A : Type 0} → (ℕ → Option A) → ℕ → Option A
@@ -58,8 +50,3 @@ abbrev pub reloc_refusal : List ℕ → Option RelocRefusal
 reloc_refusal file =
     no_relocs (sections_of file) or_else entry_size (sections_of file)
     or_else bad_entry file (length (symbols_of file)) (sections_of file)
-
--- a check says no more than whether, and why, it refuses
-abbrev pub Says : {A : Type 0} → Result (Unit {0}) A → Option A → Type 0
-Says (Ok x) o = o ≡ None
-Says (Err why) o = o ≡ Some why

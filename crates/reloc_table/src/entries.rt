@@ -1,15 +1,20 @@
 // Relocation entries and the checks of each (gABI, "Relocation").
 
-ghost use Rattle.std.specs.Prelude.{◌≡◌, ◌+◌, ◌*◌, ◌/◌, ◌<◌, ◌≤◌, ◌^◌, ◌++◌, length, OnOk};
+ghost use Rattle.std.specs.Prelude.{◌≡◌, ℕ, ◌+◌, ◌*◌, ◌/◌, ◌<◌, ◌≤◌, ◌^◌, ◌++◌, ◌==◌, true, All, filter, length, map, IfOk, OnOk};
+ghost use Rattle.std.specs.List.{list_any};
+ghost use Rattle.std.specs.List.Sorted.{IsNonDecreasing};
 ghost use Rattle.elf_spec.specs.Records.{entries, reloc_at};
-ghost use Rattle.reloc_table.specs.Checks.{is_compressed, is_tls};
-ghost use Rattle.reloc_table.specs.Refusals.{Says, entry_refusal, section_refusal};
+ghost use Rattle.reloc_table.specs.Checks.{is_bad, is_compressed, is_tls};
+ghost use Rattle.elf_read.specs.Refusals.{Says};
+ghost use Rattle.reloc_table.specs.Refusals.{entry_refusal, section_refusal};
+ghost use Rattle.reloc_table.specs.Slots.{AreBad, AreSlots, IsSlotInside, IsTableInside, entries_of, entry_in, is_bad_at, is_slot_of, table_of};
 
 use crate::refusals::RelocRefusal;
+use crate::slots::{EntryTable, first_in, offset_of, slot_at};
 use crate::tables::ENTRY_SIZE;
 use elf_read::word;
 use elf_spec::{Reloc, Section};
-use std::alloc::AllocError;
+use std::alloc::{AllocError, Global};
 
 /// The entry at an offset.
 #[tactic(auto, unfolding(elf_spec::specs::Records::reloc_at))]
@@ -54,31 +59,117 @@ fn check_entry(r: &Reloc, symbols: usize, section: u32, entry: u32) -> Result<()
     Ok(())
 }
 
-/// Checks the entries of the section with this index.
-#[tactic(auto, unfolding(crate::specs::Refusals::section_refusal))]
+/// Whether an entry of a file with so many symbols is refused.
+fn is_bad(r: &Reloc, symbols: usize) -> bool
+    ensures { result ≡ is_bad symbols r.now }
+{
+    r.symbol as usize >= symbols || is_tls(r) || is_compressed(r)
+}
+
+/// The entry at a slot.
+fn entry(file: &[u8], slot: u64) -> Reloc
+    requires { IsSlotInside (length file.now) slot }
+    ensures { result ≡ entry_in file.now slot }
+{
+    reloc(file, offset_of(slot) as usize)
+}
+
+/// The slots of those entries at slots that are refused.
+fn find_bad(
+    alloc: Global,
+    file: &[u8],
+    symbols: usize,
+    slots: &[u64],
+) -> Result<Vec<u64>, AllocError>
+    requires { All (IsSlotInside (length file.now)) slots.now }
+    ensures { IfOk result (λ bad. bad.items ≡ filter (is_bad_at file.now symbols) slots.now) }
+{
+    let mut bad = Vec::new(alloc);
+    for slot in slots {
+        if is_bad(&entry(file, *slot), symbols) {
+            bad.push(*slot)?;
+        }
+    }
+    Ok(bad)
+}
+
+/// The slots of the refused entries of tables, in order; `slots` are those of all entries.
+pub fn bad_slots(
+    alloc: Global,
+    file: &[u8],
+    symbols: usize,
+    tables: &[EntryTable],
+    slots: &[u64],
+) -> Result<Vec<u64>, AllocError>
+    requires slots { AreSlots tables.now slots.now }
+    requires short { length file.now < 2 ^ 32 }
+    requires inside { All (IsTableInside (length file.now)) tables.now }
+    ensures { IfOk result (λ bad. AreBad file.now symbols tables.now bad.items) }
+{
+    let mut bad = find_bad(alloc, file, symbols, slots)?;
+    bad.sort_unstable();
+    Ok(bad)
+}
+
+/// The entries at slots.
+pub fn entries_at(alloc: Global, file: &[u8], slots: &[u64]) -> Result<Vec<Reloc>, AllocError>
+    requires { All (IsSlotInside (length file.now)) slots.now }
+    ensures { IfOk result (λ list. list.items ≡ map (entry_in file.now) slots.now) }
+{
+    let mut list = Vec::with_capacity(alloc, slots.len())?;
+    for slot in slots {
+        list.push(entry(file, *slot))?;
+    }
+    Ok(list)
+}
+
+/// Checks the entries of the section with this index; `bad` are the slots of refused entries, in order.
 pub fn check_section(
     file: &[u8],
     symbols: usize,
+    bad: &[u64],
     section: u32,
     s: &Section,
 ) -> Result<(), RelocRefusal>
-    requires { s.now.offset + s.now.size ≤ length file.now }
+    requires inside { s.now.offset + s.now.size ≤ length file.now }
+    requires short { length file.now < 2 ^ 32 }
+    requires rise { IsNonDecreasing bad.now }
+    requires bad { (a : ℕ) → is_slot_of a (table_of s.now) ≡ true → list_any (λ b. b == a) bad.now ≡ is_bad_at file.now symbols a }
     ensures { Says result (section_refusal file.now symbols section s.now) }
 {
-    for k in 0..s.size / ENTRY_SIZE {
-        let r = reloc(file, s.offset as usize + 12 * k as usize);
-        check_entry(&r, symbols, section, k)?;
+    let start = slot_at(s.offset);
+    match first_in(bad, start, start + (s.size / ENTRY_SIZE) as u64) {
+        Some(slot) => {
+            let r = entry(file, slot);
+            check_entry(&r, symbols, section, (slot - start) as u32)
+        }
+        None => Ok(()),
+    }
+}
+
+/// Adds the entries of a table.
+fn push_entries(list: &mut Vec<Reloc>, file: &[u8], t: &EntryTable) -> Result<(), AllocError>
+    requires { IsTableInside (length file.now) t.now }
+    ensures { OnOk result (list.new.items ≡ list.old.items ++ entries (reloc_at file.now) 12 t.now.offset t.now.count) }
+{
+    for k in 0..t.count {
+        list.push(reloc(file, t.offset as usize + 12 * k as usize))?;
     }
     Ok(())
 }
 
-/// Adds the entries of a section.
-pub fn push_entries(list: &mut Vec<Reloc>, file: &[u8], s: &Section) -> Result<(), AllocError>
-    requires { s.now.offset + s.now.size ≤ length file.now }
-    ensures { OnOk result (list.new.items ≡ list.old.items ++ entries (reloc_at file.now) 12 s.now.offset (s.now.size / 12)) }
+/// The entries of tables, in order.
+pub fn table_entries(
+    alloc: Global,
+    file: &[u8],
+    tables: &[EntryTable],
+) -> Result<Vec<Reloc>, AllocError>
+    requires { All (IsTableInside (length file.now)) tables.now }
+    ensures { IfOk result (λ list. list.items ≡ entries_of file.now tables.now) }
 {
-    for k in 0..s.size / ENTRY_SIZE {
-        list.push(reloc(file, s.offset as usize + 12 * k as usize))?;
+    let mut list = Vec::new(alloc);
+    for t in tables {
+        push_entries(&mut list, file, t)?;
     }
-    Ok(())
+    Ok(list)
 }

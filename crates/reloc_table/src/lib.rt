@@ -5,11 +5,14 @@
 mod entries;
 mod read;
 mod refusals;
+mod relocs;
+mod slots;
 mod tables;
 
 pub use elf_spec::Reloc;
-pub use read::{Relocs, read_relocs};
+pub use read::read_relocs;
 pub use refusals::RelocRefusal;
+pub use relocs::Relocs;
 pub use tables::{is_executable, is_kept, symbol_table};
 
 #[cfg(test)]

@@ -1,8 +1,9 @@
 // The entries of a small file, and each refusal once.
-ghost use Rattle.std.specs.Prelude.{◌+◌, ◌<◌, ◌≤◌, length};
+ghost use Rattle.std.specs.Prelude.{◌≡◌, ◌+◌, ◌<◌, ◌≤◌, [], length, IfOk};
 
-use crate::{Reloc, RelocRefusal, Relocs, read_relocs};
+use crate::{Reloc, RelocRefusal, read_relocs};
 use elf_read::read_elf;
+use rv_build::Builder;
 use std::alloc::{AllocError, Global};
 use std::process::Abort;
 use std::test::Fail;
@@ -14,38 +15,40 @@ const PUT: [u32; 12] = [
     0x00100613, 0x04000893, 0x00000073, 0x00008067,
 ];
 
-fn push_words(bytes: &mut Vec<u8>, words: &[u32]) -> Result<(), AllocError> {
+/// The entry of its call: R_RISCV_JAL, symbol 1.
+const CALL: Reloc = Reloc {
+    place: 0x10100,
+    kind: 17,
+    symbol: 1,
+};
+
+/// A builder that has these words.
+fn begin(alloc: Global, words: &[u32]) -> Result<Builder, AllocError>
+    ensures { IfOk result (λ builder. builder ≡ record { words = words.now; symbols = []; relocs = [] }) }
+{
+    let mut builder = Builder::new(alloc);
     for word in words {
-        bytes.extend_from_slice(&word.to_le_bytes())?;
+        builder.word(*word)?;
     }
-    Ok(())
+    Ok(builder)
 }
 
 /// The program as a linked file of 588 bytes, with a JAL entry for its call.
 fn put_file(alloc: Global) -> Result<Vec<u8>, AllocError> {
-    let mut bytes = Vec::new(alloc);
-    bytes.extend_from_slice(b"\x7fELF\x01\x01\x01\0\0\0\0\0\0\0\0\0")?;
-    push_words(&mut bytes, &[0xf30002, 1, 0x10100, 52, 388, 0])?;
-    push_words(&mut bytes, &[0x200034, 0x280001, 0x40005])?;
-    push_words(&mut bytes, &[1, 0, 0x10000, 0x10000, 304, 304, 5, 4096])?;
-    push_words(&mut bytes, &[0; 43])?;
-    push_words(&mut bytes, &PUT)?;
-    push_words(&mut bytes, &[0x10100, 0x111, 0])?;
-    push_words(&mut bytes, &[0, 0, 0, 0, 34, 0x10110, 32, 0x10012])?;
-    bytes.extend_from_slice(b"\0.text\0.rela.text\0.symtab\0.strtab\0put\0\0\0")?;
-    push_words(&mut bytes, &[0; 10])?;
-    push_words(&mut bytes, &[1, 1, 6, 0x10100, 256, 48, 0, 0, 4, 0])?;
-    push_words(&mut bytes, &[7, 4, 0, 0, 304, 12, 3, 1, 4, 12])?;
-    push_words(&mut bytes, &[18, 2, 0, 0, 316, 32, 4, 1, 4, 16])?;
-    push_words(&mut bytes, &[26, 3, 0, 0, 348, 38, 0, 0, 1, 0])?;
-    Ok(bytes)
+    let mut builder = begin(alloc, &PUT)?;
+    builder.symbol(alloc, "put", 0x10110, 32)?;
+    builder.reloc(CALL)?;
+    builder.finish(alloc)
 }
 
-/// What the relocations of a readable file come to.
-fn relocs(rt: &impl Abort, alloc: Global, file: &[u8]) -> Result<Relocs, RelocRefusal> {
+/// The relocations of a readable file, in order.
+fn relocs(rt: &impl Abort, alloc: Global, file: &[u8]) -> Result<Vec<Reloc>, RelocRefusal> {
     assert!(rt; file.len() < 4294967296);
-    match read_elf(alloc, file) {
-        Ok(elf) => read_relocs(alloc, &elf, file),
+    let Ok(elf) = read_elf(alloc, file) else {
+        return Err(RelocRefusal::Memory);
+    };
+    match read_relocs(alloc, &elf, file)?.to_vec(alloc) {
+        Ok(list) => Ok(list),
         Err(_) => Err(RelocRefusal::Memory),
     }
 }
@@ -55,12 +58,7 @@ fn the_entries_are_read(rt: HostRuntime) -> Result<(), Fail> {
     let file = put_file(rt.alloc())?;
     assert_eq!(rt; file.len(), 588);
     let found = relocs(&rt, rt.alloc(), &file)?;
-    let wanted = [Reloc {
-        place: 0x10100,
-        kind: 17,
-        symbol: 1,
-    }];
-    assert_eq!(rt; found.as_slice(), wanted.as_slice());
+    assert_eq!(rt; found.as_slice(), [CALL].as_slice());
     Ok(())
 }
 
@@ -91,4 +89,76 @@ fn each_refusal_has_its_item_and_text(rt: HostRuntime) -> Result<(), Fail> {
     check_change(&rt, alloc, 309, 2, "section 2 entry 0 symbol out")?;
     check_change(&rt, alloc, 308, 6, "tls at 00010100")?;
     check_change(&rt, alloc, 308, 0x2c, "compressed at 00010100")
+}
+
+/// An entry of the program.
+fn entry(place: u32, kind: u8) -> Reloc
+    ensures { result ≡ record { place = place; kind = kind; symbol = 1 } }
+{
+    Reloc {
+        place,
+        kind,
+        symbol: 1,
+    }
+}
+
+/// The program with three entries of which a second section, number 5, has the last two.
+fn overlapping_file(alloc: Global) -> Result<Vec<u8>, Fail> {
+    let mut builder = begin(alloc, &PUT)?;
+    builder.symbol(alloc, "put", 0x10110, 32)?;
+    builder.reloc(entry(0x10100, 17))?;
+    builder.reloc(entry(0x10104, 51))?;
+    builder.reloc(entry(0x10108, 51))?;
+    let mut file = builder.finish(alloc)?;
+    let mut header = Vec::from_slice(alloc, file.get(492..532).unwrap_or(&[]))?;
+    if header.len() == 40 {
+        header[16] = 60;
+        header[20] = 24;
+    }
+    file.extend_from_slice(header.as_slice())?;
+    if file.len() > 48 {
+        file[48] = 6;
+    }
+    Ok(file)
+}
+
+#[test]
+fn overlapping_sections_are_read_in_order(rt: HostRuntime) -> Result<(), Fail> {
+    let file = overlapping_file(rt.alloc())?;
+    assert_eq!(rt; file.len(), 652);
+    let found = relocs(&rt, rt.alloc(), &file)?;
+    let first = entry(0x10100, 17);
+    let second = entry(0x10104, 51);
+    let third = entry(0x10108, 51);
+    let wanted = [first, second, third, second, third];
+    assert_eq!(rt; found.as_slice(), wanted.as_slice());
+    Ok(())
+}
+
+#[test]
+fn overlapping_entries_are_held_once(rt: HostRuntime) -> Result<(), Fail> {
+    let file = overlapping_file(rt.alloc())?;
+    assert!(rt; file.len() < 4294967296);
+    let elf = read_elf(rt.alloc(), &file)?;
+    let relocs = read_relocs(rt.alloc(), &elf, &file)?;
+    assert_eq!(rt; relocs.entries_once().len(), 3);
+    Ok(())
+}
+
+#[test]
+fn the_first_section_with_a_bad_entry_is_named(rt: HostRuntime) -> Result<(), Fail> {
+    let mut file = overlapping_file(rt.alloc())?;
+    assert!(rt; file.len() == 652);
+    file[333] = 2;
+    match relocs(&rt, rt.alloc(), &file) {
+        Ok(_) => assert!(rt; false, "accepted"),
+        Err(why) => assert_eq!(rt;
+            why,
+            RelocRefusal::SymbolOut {
+                section: 2,
+                entry: 2
+            }
+        ),
+    }
+    Ok(())
 }

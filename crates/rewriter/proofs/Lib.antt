@@ -1,6 +1,3 @@
-pub mod FirstForm
-pub mod Entries
-pub mod JalSites
-pub mod Pairs
-pub mod PlanForm
-pub mod Chosen
+pub mod LeftWords
+pub mod ChosenSites
+pub mod NewFiles

@@ -1,2 +1,2 @@
-pub mod First
-pub mod Known
+pub mod Left
+pub mod Rewrites

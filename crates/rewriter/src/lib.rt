@@ -1,17 +1,15 @@
-// The rewriting of an executable of the first form by a plan.
+// The rewriting of an accepted executable by a plan that fits it.
 #![tactic(auto)]
 
-mod form;
+mod left;
 mod patches;
 mod places;
-mod plan;
 mod refusal;
-mod rewrite;
-mod sites;
+mod rewriting;
 mod text;
 
-pub use refusal::FirstRefusal;
-pub use rewrite::rewrite_first;
+pub use refusal::RewriteRefusal;
+pub use rewriting::rewrite;
 
 #[cfg(test)]
 mod tests;

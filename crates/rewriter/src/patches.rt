@@ -1,44 +1,45 @@
 // The words that stand at the chosen sites in place of their own.
-ghost use Rattle.std.specs.Prelude.{◌≡◌, ◌+◌, ◌<◌, ◌≤◌, ◌++◌, length, All, IfOk, OnOk};
-ghost use Rattle.elf_write.specs.Inputs.{IsInside};
+ghost use Rattle.std.specs.Prelude.{◌≡◌, ℕ, ◌<◌, ◌≤◌, ◌++◌, Some, length, slice_get, IfOk, OnOk};
 ghost use Rattle.site_spec.specs.Places.{text_at, stub_at};
+ghost use Rattle.site_spec.specs.Plans.{IsInReach};
 ghost use Rattle.site_spec.specs.Rewritten.{site_patches, patches_from};
 ghost use Rattle.site_spec.specs.Sites.{site_at};
-ghost use Rattle.rewriter.specs.Known.{IsKnown};
+ghost use Rattle.exec_image.specs.Accepted.{AcceptedFacts};
+ghost use Rattle.image_keeps.specs.Parts.{HasNoPairs};
 
 use crate::places::stub_place;
-use crate::sites::{BASE, site_of};
-use elf_read::First;
 use elf_spec::Patch;
+use exec_image::Image;
 use plan_core::PlanLine;
 use rv_isa::{Instr, encode};
 use std::alloc::{AllocError, Global};
 
 /// Adds the jump to the stub of the line with this number, where the line names a site.
-#[tactic(auto, using(crate::proofs::Chosen::chosen))]
+#[tactic(auto, using(crate::proofs::ChosenSites::sites))]
 fn push_patch(
     patches: &mut Vec<Patch>,
-    file: &[u8],
-    first: First,
+    image: &Image,
     line: PlanLine,
     number: usize,
 ) -> Result<(), AllocError>
-    requires known { IsKnown file.now first }
+    requires facts { AcceptedFacts image.now }
+    requires no_pairs { HasNoPairs image.now }
     requires few { number < 32 }
-    requires kept { All (IsInside (length file.now)) patches.old.items }
-    ensures is { OnOk result (patches.new.items ≡ patches.old.items
-        ++ site_patches file.now (stub_at (text_at file.now) number) (site_at file.now line.addr)) }
-    ensures inside { OnOk result (All (IsInside (length file.now)) patches.new.items) }
+    requires reach { IsInReach image.now (Some line) number }
+    ensures { OnOk result (patches.new.items ≡ patches.old.items
+        ++ site_patches image.now (stub_at (text_at image.now) number) (site_at image.now line.addr)) }
 {
-    if let Some(site) = site_of(file, first, line.addr) {
-        let distance = stub_place(file, first, number) - site.addr;
-        patches.push(Patch {
-            offset: site.addr - BASE,
-            word: encode(Instr::Jal {
-                rd: 0,
-                imm: distance,
-            }),
-        })?;
+    if let Some(site) = image.site(line.addr) {
+        if let Some(offset) = image.code_place(site.addr) {
+            let distance = stub_place(image, number).wrapping_sub(site.addr);
+            patches.push(Patch {
+                offset,
+                word: encode(Instr::Jal {
+                    rd: 0,
+                    imm: distance,
+                }),
+            })?;
+        }
     }
     Ok(())
 }
@@ -46,18 +47,18 @@ fn push_patch(
 /// The patches of all lines.
 pub fn site_patches(
     alloc: Global,
-    file: &[u8],
-    first: First,
+    image: &Image,
     lines: &[PlanLine],
 ) -> Result<Vec<Patch>, AllocError>
-    requires known { IsKnown file.now first }
+    requires facts { AcceptedFacts image.now }
+    requires no_pairs { HasNoPairs image.now }
     requires few { length lines.now ≤ 32 }
-    ensures is { IfOk result (λ patches. patches.items ≡ patches_from file.now 0 lines.now) }
-    ensures inside { IfOk result (λ patches. All (IsInside (length file.now)) patches.items) }
+    requires reach { (k : ℕ) → IsInReach image.now (slice_get lines.now k) k }
+    ensures { IfOk result (λ patches. patches.items ≡ patches_from image.now 0 lines.now) }
 {
     let mut patches = Vec::with_capacity(alloc, lines.len())?;
     for (number, line) in lines.iter().enumerate() {
-        push_patch(&mut patches, file, first, *line, number)?;
+        push_patch(&mut patches, image, *line, number)?;
     }
     Ok(patches)
 }

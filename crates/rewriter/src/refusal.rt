@@ -1,16 +1,24 @@
 // Why a file isn't rewritten.
+
+use exec_image::{FileRefusal, PlanFault};
 use thiserror::Error;
 
-/// Why a file isn't rewritten by a plan.
+/// Why a file isn't rewritten by a plan: the first check that the file fails, else the first that the
+/// plan fails, else the lowest code word that isn't rewritten yet; or want of memory. `File` never
+/// carries a want of memory.
 #[derive(Clone, Copy, Debug, PartialEq, Eq, Error)]
-pub enum FirstRefusal {
-    /// The file isn't of the first form.
-    #[error("file: not this form")]
-    File,
-    /// The plan's text isn't of the first form for this file.
-    #[error("plan: not this form")]
-    Plan,
-    /// Want of memory.
+pub enum RewriteRefusal {
+    /// The file isn't accepted.
+    #[error("file: {0}")]
+    File(FileRefusal),
+    /// The plan doesn't fit the file.
+    #[error("plan: {0}")]
+    Plan(PlanFault),
+    /// The code word at this address is a heap function's, or the first of a pair site, or none of the
+    /// ten instructions JAL, JALR, AUIPC, ADDI, XORI, SLLI, OR, AND, SB and ECALL.
+    #[error("file: not yet at {0:08x}")]
+    NotYet(u32),
+    /// There is no memory for the new file.
     #[error("out of memory")]
     Memory,
 }

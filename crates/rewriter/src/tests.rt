@@ -1,214 +1,217 @@
 // New files of small programs, and each refusal once.
-ghost use Rattle.std.specs.Prelude.{◌+◌, ◌<◌, ◌≤◌, ◌^◌, length};
+ghost use Rattle.std.specs.Prelude.{◌≡◌, [], IfOk};
 
-use crate::{FirstRefusal, rewrite_first};
-use elf_read::word;
+use crate::rewrite;
+use elf_spec::Reloc;
+use plan_core::read_plan;
+use rv_build::Builder;
 use std::alloc::{AllocError, Global};
 use std::process::Abort;
 use std::test::Fail;
 
-/// The words of a program with the function `put` at 0x10110 and one call of it.
+/// Types of relocation entries (psABI, "Relocations").
+const JAL: u8 = 17;
+
+const CALL_PLT: u8 = 19;
+
+/// A plan without sites.
+const EMPTY: &[u8] = b"halo-plan 1\narea 0 0 0\nend\n";
+
+/// Exits with status 0.
+const EXIT: [u32; 3] = [0x00000513, 0x05d00893, 0x00000073];
+
+/// Calls the function `put` at 0x10110, which writes the letter A, and exits with status 3.
 const PUT: [u32; 12] = [
     0x010000ef, 0x00300513, 0x05d00893, 0x00000073, 0x04100293, 0xfe510fa3, 0x00100513, 0xfff10593,
     0x00100613, 0x04000893, 0x00000073, 0x00008067,
 ];
 
-/// The words of a program that calls its third word twice.
-const TWICE: [u32; 3] = [0x008000ef, 0x004000ef, 0x00008067];
+/// Compares two blocks of `malloc`, which is at 0x10120, by a BEQ at 0x10114.
+const BLOCKS: [u32; 10] = [
+    0x01000513, 0x01c000ef, 0x01050413, 0x01000513, 0x010000ef, 0x00a40463, 0x05d00893, 0x00000073,
+    0x00100073, 0x00100073,
+];
 
-/// The words of a program without a call.
-const EXIT: [u32; 3] = [0x00000513, 0x05d00893, 0x00000073];
+/// Calls `malloc`, which is at 0x10118, by a pair at 0x10104.
+const PAIR: [u32; 8] = [
+    0x01800513, 0x00000097, 0x014080e7, 0x00000513, 0x05d00893, 0x00000073, 0x00100073, 0x00100073,
+];
 
-fn push_words(bytes: &mut Vec<u8>, words: &[u32]) -> Result<(), AllocError> {
+/// Exits, and has behind that a function of an ADDI and a JALR at 0x1010c.
+const SMALL: [u32; 5] = [0x00000513, 0x05d00893, 0x00000073, 0x00000513, 0x00008067];
+
+/// A builder that has these words.
+fn begin(alloc: Global, words: &[u32]) -> Result<Builder, AllocError>
+    ensures { IfOk result (λ builder. builder ≡ record { words = words.now; symbols = []; relocs = [] }) }
+{
+    let mut builder = Builder::new(alloc);
     for word in words {
-        bytes.extend_from_slice(&word.to_le_bytes())?;
+        builder.word(*word)?;
     }
-    Ok(())
+    Ok(builder)
 }
 
-/// The file and program headers of a file whose code ends at `size`, with this offset of the section
-/// headers.
-fn push_head(bytes: &mut Vec<u8>, size: u32, table: u32) -> Result<(), AllocError> {
-    bytes.extend_from_slice(b"\x7fELF\x01\x01\x01\0\0\0\0\0\0\0\0\0")?;
-    push_words(bytes, &[0xf30002, 1, 0x10100, 52, table, 0])?;
-    push_words(bytes, &[0x200034, 0x280001, 0x40005])?;
-    push_words(bytes, &[1, 0, 0x10000, 0x10000, size, size, 5, 4096])?;
-    push_words(bytes, &[0; 43])
-}
-
-/// The section headers for so many bytes of code, entries, symbols and strings.
-fn push_sections(
-    bytes: &mut Vec<u8>,
-    code: u32,
-    entries: u32,
-    symbols: u32,
-    strings: u32,
-) -> Result<(), AllocError>
-    requires { code + entries + symbols < 2 ^ 16 }
+/// The entry of a call of the one function.
+fn call(place: u32, kind: u8) -> Reloc
+    ensures { result ≡ record { place = place; kind = kind; symbol = 1 } }
 {
-    let entries_at = 256 + code;
-    let symbols_at = entries_at + entries;
-    push_words(bytes, &[0; 10])?;
-    push_words(bytes, &[1, 1, 6, 0x10100, 256, code, 0, 0, 4, 0])?;
-    push_words(bytes, &[7, 4, 0, 0, entries_at, entries, 3, 1, 4, 12])?;
-    push_words(bytes, &[18, 2, 0, 0, symbols_at, symbols, 4, 1, 4, 16])?;
-    push_words(
-        bytes,
-        &[26, 3, 0, 0, symbols_at + symbols, strings, 0, 0, 1, 0],
-    )
-}
-
-/// A file of these words, without symbols and entries.
-fn plain_file(alloc: Global, words: [u32; 3]) -> Result<Vec<u8>, AllocError> {
-    let mut bytes = Vec::new(alloc);
-    push_head(&mut bytes, 268, 320)?;
-    push_words(&mut bytes, &words)?;
-    push_words(&mut bytes, &[0; 4])?;
-    bytes.extend_from_slice(b"\0.text\0.rela.text\0.symtab\0.strtab\0\0\0")?;
-    push_sections(&mut bytes, 12, 0, 16, 34)?;
-    Ok(bytes)
-}
-
-/// A file of these words with a JAL entry at each of these addresses, for the one function `put`.
-fn calling_file(alloc: Global, words: &[u32], calls: &[u32]) -> Result<Vec<u8>, AllocError>
-    requires words { length words.now ≤ 12 }
-    requires calls { length calls.now ≤ 2 }
-{
-    let code = 4 * words.len() as u32;
-    let entries = 12 * calls.len() as u32;
-    let mut bytes = Vec::new(alloc);
-    push_head(&mut bytes, 256 + code, 256 + code + entries + 72)?;
-    push_words(&mut bytes, words)?;
-    for call in calls {
-        push_words(&mut bytes, &[*call, 0x111, 0])?;
+    Reloc {
+        place,
+        kind,
+        symbol: 1,
     }
-    push_words(&mut bytes, &[0, 0, 0, 0, 34, 0x10110, 32, 0x10012])?;
-    bytes.extend_from_slice(b"\0.text\0.rela.text\0.symtab\0.strtab\0put\0\0\0")?;
-    push_sections(&mut bytes, code, entries, 32, 38)?;
-    Ok(bytes)
 }
 
-/// What a file and a plan's text come to.
-fn rewritten(
+/// The file of the program that calls `put`.
+fn put_file(alloc: Global) -> Result<Vec<u8>, AllocError> {
+    let mut builder = begin(alloc, &PUT)?;
+    builder.symbol(alloc, "put", 0x10110, 32)?;
+    builder.reloc(call(0x10100, JAL))?;
+    builder.finish(alloc)
+}
+
+/// The file of the program whose `malloc` is made of known instructions.
+fn small_file(alloc: Global) -> Result<Vec<u8>, AllocError> {
+    let mut builder = begin(alloc, &SMALL)?;
+    builder.symbol(alloc, "malloc", 0x1010c, 8)?;
+    builder.finish(alloc)
+}
+
+/// The file of the program with a pair.
+fn pair_file(alloc: Global) -> Result<Vec<u8>, AllocError> {
+    let mut builder = begin(alloc, &PAIR)?;
+    builder.symbol(alloc, "malloc", 0x10118, 8)?;
+    builder.reloc(call(0x10104, CALL_PLT))?;
+    builder.finish(alloc)
+}
+
+/// The file of the program that compares two blocks.
+fn blocks_file(alloc: Global) -> Result<Vec<u8>, AllocError> {
+    let mut builder = begin(alloc, &BLOCKS)?;
+    builder.symbol(alloc, "malloc", 0x10120, 8)?;
+    builder.reloc(call(0x10104, JAL))?;
+    builder.reloc(call(0x10110, JAL))?;
+    builder.finish(alloc)
+}
+
+/// The new file of a file and a plan's text.
+fn new_file(rt: &impl Abort, alloc: Global, file: &[u8], plan: &[u8]) -> Result<Vec<u8>, Fail> {
+    let plan = read_plan(alloc, plan)?;
+    assert!(rt; file.len() <= 33554432);
+    Ok(rewrite(alloc, file, &plan)?)
+}
+
+/// Compares the text of the refusal of a file and a plan's text.
+fn check_refusal(
     rt: &impl Abort,
     alloc: Global,
     file: &[u8],
     plan: &[u8],
-) -> Result<Vec<u8>, FirstRefusal> {
+    text: &str,
+) -> Result<(), Fail> {
+    let plan = read_plan(alloc, plan)?;
     assert!(rt; file.len() <= 33554432);
-    assert!(rt; plan.len() <= 1048576);
-    rewrite_first(alloc, file, plan)
+    match rewrite(alloc, file, &plan) {
+        Ok(_) => assert!(rt; false, "{text}"),
+        Err(why) => assert_eq!(rt; format!(in alloc; "{why}")?.as_str(), text),
+    }
+    Ok(())
 }
 
-/// Compares the words from an offset on.
-fn check_words(rt: &impl Abort, file: &[u8], at: usize, words: &[u32]) {
-    assert!(rt; at <= 4156);
-    assert!(rt; words.len() <= 16);
-    for (number, wanted) in words.iter().enumerate() {
-        let place = at + 4 * number;
-        assert!(rt; place + 4 <= file.len());
-        assert_eq!(rt; word(file, place), *wanted, "word {number} from {at}");
+/// Whether a file has these words at an offset.
+fn has_words(file: &[u8], at: usize, words: &[u32]) -> bool {
+    let part = file.get(at..).unwrap_or(&[]);
+    part.len() >= 4 * words.len()
+        && part
+            .chunks_exact(4)
+            .zip(words)
+            .all(|(bytes, word)| bytes == word.to_le_bytes().as_slice())
+}
+
+/// Checks the parts of the new file of the program with `put`, by the word of its shift.
+fn check_new_file(rt: &impl Abort, new: &[u8], shift: u32) {
+    assert_eq!(rt; new.len(), 4156);
+    let segments = [
+        1, 0, 0x10000, 0x10000, 304, 304, 5, 4096, 1, 4096, 0x11000, 0x11000, 60, 60, 5, 4096,
+    ];
+    let text = [
+        0x4f4c4148, 0x59414c2d, 0x2d54554f, 0x0a315652, 0x00100093, shift, 0x00126233, 0xfffff097,
+        0x0f4080e7, 0x00100093, shift, 0xfff0c093, 0x00127233, 0xfffff097, 0x0d008067,
+    ];
+    let parts = [
+        (28, [592].as_slice()),
+        (44, [0x280002].as_slice()),
+        (256, [0x7110006f, 0x00300513].as_slice()),
+        (592, segments.as_slice()),
+        (4096, text.as_slice()),
+    ];
+    for (at, words) in parts {
+        assert!(rt; has_words(new, at, words), "words at {at}");
     }
 }
 
 #[test]
 fn a_chosen_call_goes_to_its_stub(rt: HostRuntime) -> Result<(), Fail> {
-    let file = calling_file(rt.alloc(), &PUT, &[0x10100])?;
+    let file = put_file(rt.alloc())?;
     assert_eq!(rt; file.len(), 588);
-    let plans = [
-        (
-            b"halo-plan 1\narea 0 0 0\nsite 0 00010100\nend\n".as_slice(),
-            0x00009093,
-        ),
-        (
-            b"halo-plan 1\narea 0 0 0\nsite 31 00010100\nend\n".as_slice(),
-            0x01f09093,
-        ),
-    ];
-    for (plan, shift) in plans {
-        let new = rewritten(&rt, rt.alloc(), &file, plan)?;
-        assert_eq!(rt; new.len(), 4156);
-        check_words(&rt, &new, 256, &[0x7110006f, 0x00300513]);
-        check_words(&rt, &new, 28, &[592]);
-        check_words(&rt, &new, 44, &[0x280002]);
-        check_words(&rt, &new, 592, &[1, 0, 0x10000, 0x10000, 304, 304, 5, 4096]);
-        check_words(
-            &rt,
-            &new,
-            624,
-            &[1, 4096, 0x11000, 0x11000, 60, 60, 5, 4096],
-        );
-        check_words(&rt, &new, 656, &[0, 0, 0]);
-        check_words(
-            &rt,
-            &new,
-            4096,
-            &[0x4f4c4148, 0x59414c2d, 0x2d54554f, 0x0a315652],
-        );
-        check_words(
-            &rt,
-            &new,
-            4112,
-            &[0x00100093, shift, 0x00126233, 0xfffff097, 0x0f4080e7],
-        );
-        check_words(
-            &rt,
-            &new,
-            4132,
-            &[0x00100093, shift, 0xfff0c093, 0x00127233, 0xfffff097],
-        );
-        check_words(&rt, &new, 4152, &[0x0d008067]);
-    }
+    let first = b"halo-plan 1\narea 0 0 0\nsite 0 00010100\nend\n";
+    let new = new_file(&rt, rt.alloc(), &file, first)?;
+    check_new_file(&rt, &new, 0x00009093);
+    let last = b"halo-plan 1\narea 0 0 0\nsite 31 00010100\nend\n";
+    let new = new_file(&rt, rt.alloc(), &file, last)?;
+    check_new_file(&rt, &new, 0x01f09093);
     Ok(())
 }
 
 #[test]
 fn a_plan_without_sites_adds_the_mark(rt: HostRuntime) -> Result<(), Fail> {
-    let file = plain_file(rt.alloc(), EXIT)?;
-    assert_eq!(rt; file.len(), 520);
-    let new = rewritten(&rt, rt.alloc(), &file, b"halo-plan 1\narea 0 0 0\nend\n")?;
+    let file = begin(rt.alloc(), &EXIT)?.finish(rt.alloc())?;
+    let new = new_file(&rt, rt.alloc(), &file, EMPTY)?;
     assert_eq!(rt; new.len(), 4112);
     Ok(())
 }
 
 #[test]
-fn plans_of_another_form_are_refused(rt: HostRuntime) -> Result<(), Fail> {
-    let file = calling_file(rt.alloc(), &TWICE, &[0x10100, 0x10104])?;
-    let both = b"halo-plan 1\narea 0 0 0\nsite 0 00010100\nsite 1 00010104\nend\n";
-    assert!(rt; rewritten(&rt, rt.alloc(), &file, both).is_ok());
+fn plans_that_do_not_fit_are_refused(rt: HostRuntime) -> Result<(), Fail> {
+    let file = put_file(rt.alloc())?;
     let plans = [
-        b"halo-plan 1\narea 0 0 0\nsite 0 00010108\nend\n".as_slice(),
-        b"halo-plan 1\narea 0 0 0\nsite 0 00010102\nend\n".as_slice(),
-        b"halo-plan 1\narea 0 0 0\nsite 0 00010100\nsite 0 00010104\nend\n".as_slice(),
-        b"halo-plan 1\narea 0 0 0\nsite 0 00010100\nsite 1 00010100\nend\n".as_slice(),
-        b"halo-plan 1\narea 0 0 0\nsite 32 00010100\nend\n".as_slice(),
-        b"halo-plan 1\narea 0 0 0\nsite 0 00010100\nrow 0 00000001\nend\n".as_slice(),
-        b"halo-plan 1\narea 1 0 0\nend\n".as_slice(),
-        b"halo-plan 1\narea 0 0 1\nend\n".as_slice(),
-        b"halo-plan 1\narea 0 0 0\n".as_slice(),
+        (
+            b"halo-plan 1\narea 0 0 0\nsite 0 00010104\nend\n".as_slice(),
+            "plan: site 00010104",
+        ),
+        (
+            b"halo-plan 1\narea 0 0 0\nsite 32 00010100\nend\n".as_slice(),
+            "plan: bit 32",
+        ),
+        (b"halo-plan 1\narea 1 21 0\nend\n".as_slice(), "plan: area"),
     ];
-    for (number, plan) in plans.iter().enumerate() {
-        let answer = rewritten(&rt, rt.alloc(), &file, plan);
-        assert!(rt; matches!(answer, Err(FirstRefusal::Plan)), "plan {number}");
+    for (plan, text) in plans {
+        check_refusal(&rt, rt.alloc(), &file, plan, text)?;
     }
     Ok(())
 }
 
 #[test]
-fn files_of_another_form_are_refused(rt: HostRuntime) -> Result<(), Fail> {
-    // A word that names x4, one beyond the ten instructions, one that is no instruction, and a file
-    // without its last byte; the plan's text isn't looked at.
-    for word in [0x00020513, 0x00012137, 0xffffffff] {
-        let file = plain_file(rt.alloc(), [0x00000513, word, 0x00000073])?;
-        let answer = rewritten(&rt, rt.alloc(), &file, b"none");
-        assert!(rt;
-            matches!(answer, Err(FirstRefusal::File)),
-            "word {word:08x}"
-        );
-    }
-    let mut file = plain_file(rt.alloc(), EXIT)?;
-    let _last = file.pop();
-    let answer = rewritten(&rt, rt.alloc(), &file, b"halo-plan 1\narea 0 0 0\nend\n");
-    assert!(rt; matches!(answer, Err(FirstRefusal::File)));
-    Ok(())
+fn the_lowest_word_that_is_left_is_named(rt: HostRuntime) -> Result<(), Fail> {
+    let alloc = rt.alloc();
+    let small = small_file(alloc)?;
+    check_refusal(&rt, alloc, &small, EMPTY, "file: not yet at 0001010c")?;
+    let pair = pair_file(alloc)?;
+    check_refusal(&rt, alloc, &pair, EMPTY, "file: not yet at 00010104")?;
+    let blocks = blocks_file(alloc)?;
+    check_refusal(&rt, alloc, &blocks, EMPTY, "file: not yet at 00010114")
+}
+
+#[test]
+fn the_file_is_judged_before_the_plan_and_the_plan_before_its_words(
+    rt: HostRuntime,
+) -> Result<(), Fail> {
+    let alloc = rt.alloc();
+    let plan = b"halo-plan 1\narea 0 0 0\nsite 0 00010108\nend\n";
+    let mut file = put_file(alloc)?;
+    assert!(rt; file.len() > 4);
+    file[4] = 2;
+    check_refusal(&rt, alloc, &file, plan, "file: class 2")?;
+    let small = small_file(alloc)?;
+    check_refusal(&rt, alloc, &small, plan, "plan: site 00010108")
 }

@@ -2,13 +2,16 @@
 ghost use Rattle.std.specs.Prelude.{◌≡◌, ◌+◌, ◌*◌, ◌<◌, ◌≤◌, ◌++◌, length, flat_map, All, IfOk, OnOk};
 ghost use Rattle.elf_spec.specs.Fields.{word_bytes};
 ghost use Rattle.site_spec.specs.Places.{text_at, stub_at};
-ghost use Rattle.site_spec.specs.Rewritten.{mark, site_stub, stubs_from};
+ghost use Rattle.site_spec.specs.Rewritten.{mark, site_stub, stubs_from, text_segment};
 ghost use Rattle.site_spec.specs.Sites.{site_at};
-ghost use Rattle.rewriter.specs.Known.{IsKnown};
+ghost use Rattle.exec_image.specs.Accepted.{AcceptedFacts};
+ghost use Rattle.image_keeps.specs.Parts.{HasNoPairs};
 
 use crate::places::stub_place;
-use crate::sites::site_of;
-use elf_read::First;
+use bitflags::Flags;
+use elf_read::SegmentFlags;
+use elf_spec::{ByteList, NewSegment};
+use exec_image::Image;
 use plan_core::PlanLine;
 use site_stubs::stub;
 use std::alloc::{AllocError, Global};
@@ -38,45 +41,69 @@ fn push_words(text: &mut Vec<u8>, words: &[u32]) -> Result<(), AllocError>
 }
 
 /// Adds the stub of the line with this number, where the line names a site.
-#[tactic(auto, using(crate::proofs::Chosen::chosen))]
+#[tactic(auto, using(crate::proofs::ChosenSites::sites))]
 fn push_stub(
     text: &mut Vec<u8>,
-    file: &[u8],
-    first: First,
+    image: &Image,
     line: PlanLine,
     number: usize,
 ) -> Result<(), AllocError>
-    requires known { IsKnown file.now first }
+    requires facts { AcceptedFacts image.now }
+    requires no_pairs { HasNoPairs image.now }
     requires few { number < 32 }
     requires bit { line.bit < 32 }
     ensures is { OnOk result (text.new.items ≡ text.old.items
-        ++ site_stub (stub_at (text_at file.now) number) line.bit (site_at file.now line.addr)) }
+        ++ site_stub (stub_at (text_at image.now) number) line.bit (site_at image.now line.addr)) }
     ensures long { OnOk result (length text.new.items ≤ length text.old.items + 44) }
 {
-    if let Some(site) = site_of(file, first, line.addr) {
-        let at = stub_place(file, first, number);
+    if let Some(site) = image.site(line.addr) {
+        let at = stub_place(image, number);
         push_words(text, &stub(line.bit, site.target, site.back, at))?;
     }
     Ok(())
 }
 
 /// The bytes of the new text.
-pub fn text_bytes(
-    alloc: Global,
-    file: &[u8],
-    first: First,
-    lines: &[PlanLine],
-) -> Result<Vec<u8>, AllocError>
-    requires known { IsKnown file.now first }
+fn text_bytes(alloc: Global, image: &Image, lines: &[PlanLine]) -> Result<Vec<u8>, AllocError>
+    requires facts { AcceptedFacts image.now }
+    requires no_pairs { HasNoPairs image.now }
     requires few { length lines.now ≤ 32 }
     requires bits { All (λ line. line.bit < 32) lines.now }
-    ensures is { IfOk result (λ text. text.items ≡ mark ++ stubs_from file.now 0 lines.now) }
+    ensures is { IfOk result (λ text. text.items ≡ mark ++ stubs_from image.now 0 lines.now) }
     ensures short { IfOk result (λ text. length text.items ≤ 1424) }
 {
     let mut text = Vec::with_capacity(alloc, MARK.len() + 44 * lines.len())?;
     text.extend_from_slice(MARK)?;
     for (number, line) in lines.iter().enumerate() {
-        push_stub(&mut text, file, first, *line, number)?;
+        push_stub(&mut text, image, *line, number)?;
     }
     Ok(text)
+}
+
+/// The flags of a segment of code.
+fn code_flags() -> u32
+    ensures { result ≡ 5 }
+{
+    SegmentFlags::READ.union(SegmentFlags::EXECUTE).bits()
+}
+
+/// The segment of the new text.
+pub fn text_segment(
+    alloc: Global,
+    image: &Image,
+    lines: &[PlanLine],
+) -> Result<NewSegment, AllocError>
+    requires facts { AcceptedFacts image.now }
+    requires no_pairs { HasNoPairs image.now }
+    requires few { length lines.now ≤ 32 }
+    requires bits { All (λ line. line.bit < 32) lines.now }
+    ensures { IfOk result (λ segment. segment ≡ text_segment (text_at image.now) (mark ++ stubs_from image.now 0 lines.now)) }
+{
+    let text = text_bytes(alloc, image, lines)?;
+    Ok(NewSegment {
+        vaddr: image.text_at(),
+        flags: code_flags(),
+        mem_size: text.len() as u32,
+        bytes: ByteList::from(text),
+    })
 }

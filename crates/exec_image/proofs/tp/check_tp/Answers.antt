@@ -7,7 +7,7 @@ use Rattle.exec_image.specs.declared.refusals.FileRefusal.TheVariants.{TpUsed}
 use Rattle.exec_image.specs.Checks.{uses_tp_at}
 use Rattle.exec_image.specs.Refusals.{tp_used}
 use Rattle.exec_image.proofs.ImageEnd.{use_below}
-use Rattle.exec_image.proofs.TpWords.{below_all}
+use Rattle.exec_image.proofs.Finding.{below_all}
 use Rattle.exec_image.proofs.tp.check_tp.Goals as goal
 
 pub returns-in-Some : goal.returns-in-Some

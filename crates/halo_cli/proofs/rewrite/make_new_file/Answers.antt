@@ -1,25 +1,49 @@
-use Rattle.std.proofs.Common.{inl, inr, refl, rules}
-use Rattle.rewriter.specs.First.{IsRewriteOf}
-use Rattle.first_keeps.proofs.Law.{kept}
-use Rattle.halo_cli.specs.Rewrite.{AreRead}
-use Rattle.halo_cli.proofs.Due.{forms_bring}
+-- The plan's text and the file were read one after the other.
+use Rattle.std.proofs.Common.{⊎_elim, inl, inr, rules, List, ℕ}
+use Rattle.std.proofs.lemmas.Result.{IfOk-weaker, IfErr-weaker}
+use Rattle.halo_outside.specs.Seen.{FilesSeen}
+use Rattle.halo_cli.specs.Reads.{IsRead, file_limit}
+use Rattle.halo_cli.specs.Rewrite.{AreRead, IsPlanRead, RewriteBrings}
+use Rattle.halo_cli.proofs.ReadsDue.{has_cause}
+use Rattle.halo_cli.proofs.RewriteDue.{text_brings, made_comes, made_writes}
 use Rattle.halo_cli.proofs.rewrite.make_new_file.Goals as goal
 
-pub returns-in-Err-File-clause-cause : goal.returns-in-Err-File-clause-cause
-returns-in-Err-File-clause-cause g c =
-    let read : AreRead c.args.plan_name.now c.args.file_name.now (g.F.Files.seen c.args.files.now) (g.F.Files.seen c.read-2.new.self) c.in-Ok.plan.items c.in-Ok-read.file.items = search rules in
-    forms_bring c.args.plan_name.now c.args.file_name.now (g.F.Files.seen c.args.files.now) (g.F.Files.seen c.read-2.new.self) c.in-Ok.plan.items c.in-Ok-read.file.items _ read
-    (inl (refl, rw c.deref.ensures.value at ((rw c.in-Err-File.field-0-is at c.in-Err-File.ensures).file refl)))
+pub returns-clause-fits : goal.returns-clause-fits
+returns-clause-fits g c =
+    let before : FilesSeen = g.F.Files.seen c.args.files.now in
+    let now : FilesSeen = g.F.Files.seen c.read-2.new.self in
+    let text : List ℕ = c.in-Ok.text.items in
+    let file : List ℕ = c.in-Ok-read.file.items in
+    let between : FilesSeen = g.F.Files.seen c.read.new.self in
+    let first : IsPlanRead c.args.plan_name.now before between text = record { read = search rules; told = search rules } in
+    let second : IsRead c.args.file_name.now file_limit between now file = search rules in
+    let read : AreRead c.args.plan_name.now c.args.file_name.now before now text file = (between, first, second) in
+    IfOk-weaker _ _ _ (λ new made. text_brings c.args.plan_name.now c.args.file_name.now before now text file _ read (made_comes text file _ made))
+    (rw (c.deref.ensures.value, c.deref-2.ensures.value) at c.new_file.ensures.made)
 
-pub returns-in-Err-Plan-clause-cause : goal.returns-in-Err-Plan-clause-cause
-returns-in-Err-Plan-clause-cause g c =
-    let read : AreRead c.args.plan_name.now c.args.file_name.now (g.F.Files.seen c.args.files.now) (g.F.Files.seen c.read-2.new.self) c.in-Ok.plan.items c.in-Ok-read.file.items = search rules in
-    let formed = rw (c.deref.ensures.value, c.deref-2.ensures.value) at ((rw c.in-Err-Plan.field-0-is at c.in-Err-Plan.ensures).plan refl) in
-    forms_bring c.args.plan_name.now c.args.file_name.now (g.F.Files.seen c.args.files.now) (g.F.Files.seen c.read-2.new.self) c.in-Ok.plan.items c.in-Ok-read.file.items _ read
-    (inr (inl (refl, formed.0, formed.1)))
+pub returns-clause-made : goal.returns-clause-made
+returns-clause-made g c =
+    let before : FilesSeen = g.F.Files.seen c.args.files.now in
+    let now : FilesSeen = g.F.Files.seen c.read-2.new.self in
+    let text : List ℕ = c.in-Ok.text.items in
+    let file : List ℕ = c.in-Ok-read.file.items in
+    let between : FilesSeen = g.F.Files.seen c.read.new.self in
+    let first : IsPlanRead c.args.plan_name.now before between text = record { read = search rules; told = search rules } in
+    let second : IsRead c.args.file_name.now file_limit between now file = search rules in
+    let read : AreRead c.args.plan_name.now c.args.file_name.now before now text file = (between, first, second) in
+    IfOk-weaker _ _ _ (λ new made. made_writes c.args.plan_name.now c.args.file_name.now before now text file _ read made)
+    (rw (c.deref.ensures.value, c.deref-2.ensures.value) at c.new_file.ensures.made)
 
-pub returns-in-Ok-rewrite_first-clause-made : goal.returns-in-Ok-rewrite_first-clause-made
-returns-in-Ok-rewrite_first-clause-made g c =
-    let read : AreRead c.args.plan_name.now c.args.file_name.now (g.F.Files.seen c.args.files.now) (g.F.Files.seen c.read-2.new.self) c.in-Ok.plan.items c.in-Ok-read.file.items = search rules in
-    let made : IsRewriteOf c.in-Ok-read.file.items c.in-Ok.plan.items c.in-Ok-rewrite_first.new.items = rw (c.deref.ensures.value, c.deref-2.ensures.value) at c.in-Ok-rewrite_first.ensures.done in
-    (c.in-Ok.plan.items, c.in-Ok-read.file.items, read, kept c.in-Ok-read.file.items c.in-Ok.plan.items c.in-Ok-rewrite_first.new.items read.file_within made)
+pub returns-clause-cause : goal.returns-clause-cause
+returns-clause-cause g c =
+    let before : FilesSeen = g.F.Files.seen c.args.files.now in
+    let now : FilesSeen = g.F.Files.seen c.read-2.new.self in
+    let text : List ℕ = c.in-Ok.text.items in
+    let file : List ℕ = c.in-Ok-read.file.items in
+    let between : FilesSeen = g.F.Files.seen c.read.new.self in
+    let first : IsPlanRead c.args.plan_name.now before between text = record { read = search rules; told = search rules } in
+    let second : IsRead c.args.file_name.now file_limit between now file = search rules in
+    let read : AreRead c.args.plan_name.now c.args.file_name.now before now text file = (between, first, second) in
+    IfErr-weaker _ _ _ (λ e due. has_cause (RewriteBrings c.args.plan_name.now c.args.file_name.now before now) before now e
+    (⊎_elim (λ comes. inl (text_brings c.args.plan_name.now c.args.file_name.now before now text file e read comes)) (λ is. inr is) due))
+    (rw (c.deref.ensures.value, c.deref-2.ensures.value) at c.new_file.ensures.cause)

@@ -1,16 +1,21 @@
--- The refused entry is the first.
-use Rattle.std.proofs.Common.{rules, ◌≡◌, ℕ, ◌+◌, ◌*◌, ◌/◌, Option, Some, arith}
-use Rattle.elf_spec.specs.Records.{reloc_at}
-use Rattle.reloc_table.specs.declared.refusals.RelocRefusal.{RelocRefusal}
-use Rattle.reloc_table.specs.Refusals.{entry_refusal, first_of, section_refusal}
-use Rattle.reloc_table.proofs.First.{first_hit}
+-- The first marked slot of the section is that of its first refused entry.
+use Rattle.std.proofs.Common.{◌≡◌, ◌-◌}
+use Rattle.reloc_table.specs.Refusals.{entry_refusal, section_refusal}
+use Rattle.reloc_table.proofs.BadEntries.{section_hit, section_none}
 use Rattle.reloc_table.proofs.entries.check_section.Goals as goal
 
-pub returns-in_err-check_entry : goal.returns-in_err-check_entry
-unfolding section_refusal
-returns-in_err-check_entry c =
-    let f : ℕ → Option RelocRefusal = λ k. entry_refusal c.args.symbols c.args.section k (reloc_at c.args.file.now (c.args.s.now.offset + 12 * k)) in
-    let e : f c.loop-k.k ≡ Some c.in_err-check_entry.field-0.0 = search rules in
-    let hit : first_of f (c.args.s.now.size / 12) ≡ Some c.in_err-check_entry.field-0.0 =
-    first_hit f c.loop-k.k (c.args.s.now.size / 12) _ c.loop-k.invariant e (omega arith) in
-    search rules
+pub returns-in-Some : goal.returns-in-Some
+returns-in-Some c =
+    let start = c.slot_at-start.ensures in
+    let found = c.in-Some.ensures.found in
+    let hit =
+    section_hit c.args.file.now c.args.symbols c.args.section c.args.bad.now c.args.s.now c.in-Some.slot c.requires.inside c.requires.short c.requires.bad
+    (rw start at found.0) (rw start at found.1) found.2 (rw start at c.in-Some.ensures.first) in
+    let e : entry_refusal c.args.symbols c.args.section (c.in-Some.slot - c.slot_at-start.result) c.entry-r.result
+    ≡ section_refusal c.args.file.now c.args.symbols c.args.section c.args.s.now = rw (start, c.entry-r.ensures) hit in
+    rw e at c.check_entry.ensures
+
+pub returns-in-None : goal.returns-in-None
+returns-in-None c =
+    section_none c.args.file.now c.args.symbols c.args.section c.args.bad.now c.args.s.now c.requires.inside c.requires.short c.requires.bad
+    (rw c.slot_at-start.ensures at c.in-None.ensures.none)

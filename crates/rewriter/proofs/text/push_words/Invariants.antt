@@ -1,3 +1,4 @@
+-- The words so far have their four bytes each.
 use Rattle.std.proofs.Common.{◌≡◌, ◌+◌, ◌*◌, ◌++◌, drop, length}
 use Rattle.std.specs.Prelude.{flat_map}
 use Rattle.elf_spec.specs.Fields.{word_bytes}

@@ -4,5 +4,4 @@ use Rattle.exec_image.proofs.image.Image.elf.Goals as goal
 
 pub returns-clause-facts : goal.returns-clause-facts
 returns-clause-facts c =
-    rw (← c.self.view_is) (accepted_facts c.self.inside.elf c.self.inside.file.items c.self.inside.elf.segments c.self.inside.code.items c.self.invariant.accepted
-    c.self.invariant.read c.self.invariant.code)
+    rw (← c.self.view_is) (accepted_facts c.self.inside.file.items c.self.invariant.accepted)

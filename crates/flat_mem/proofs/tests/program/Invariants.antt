@@ -1,0 +1,6 @@
+use Rattle.std.proofs.Common.{◌≡◌, [], length}
+use Rattle.flat_mem.proofs.tests.program.Given as goal
+
+-- a word has been added in each turn, and nothing else
+abbrev pub invariant-loop-k : goal.invariant-loop-k
+invariant-loop-k l = (length l.builder.words ≡ l.k) × (l.builder.symbols ≡ []) × (l.builder.relocs ≡ [])

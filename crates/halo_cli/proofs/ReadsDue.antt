@@ -1,0 +1,111 @@
+-- What one more file of told contents brings a command to, and endings that the bytes of files decide.
+use Rattle.std.proofs.Common.{◌≡◌, ◌∙◌, ℕ, ◌<◌, ◌≤◌, ◌⊎◌, inl, inr, Bool, true, false, nat_lt, List, length, Option, None, Some, refl, sym, subst, arith}
+use Rattle.std.specs.Prelude.{IsSomeAnd}
+use Rattle.std.specs.Bool.{MatchBool}
+use Rattle.std.proofs.lemmas.Bool.Decides.{nat_tests}
+use Rattle.halo_outside.specs.Seen.{Contents, contents_of, FilesSeen, Lacks, IsTooLong}
+use Rattle.endings.specs.declared.endings.Ending.{Ending}
+use Rattle.endings.specs.declared.endings.Ending.TheVariants.{Done, Exited, Usage, File, Plan, ReadFault, WriteFault, Memory, StillRunning, Fault, Illegal}
+use Rattle.endings.specs.declared.endings.BadFile.TheVariants.{TooLong}
+use Rattle.halo_cli.specs.Reads.{FileComes, IsNoFile, HasReadCause}
+
+-- a limit is passed or not
+pub limit_once : (test : Bool) (refused : Ending) (Comes : Ending → Type 0) → ((a b : Ending) → Comes a → Comes b → a ≡ b)
+    → (a b : Ending) → MatchBool test (a ≡ refused) (Comes a) → MatchBool test (b ≡ refused) (Comes b) → a ≡ b
+limit_once true refused Comes once a b at_a at_b = at_a ∙ sym at_b
+limit_once false refused Comes once a b at_a at_b = once a b at_a at_b
+
+-- a length within its limit
+pub within : (limit len : ℕ) (P Q : Type 0) → len ≤ limit → Q → MatchBool (nat_lt limit len) P Q
+within limit len P Q fits holds =
+    let test : nat_lt limit len ≡ false = grind (arith, nat_tests) in subst (λ (b : Bool). MatchBool b P Q) (sym test) holds
+
+of_within : (limit len : ℕ) (P Q : Type 0) → len ≤ limit → MatchBool (nat_lt limit len) P Q → Q
+of_within limit len P Q fits holds =
+    let test : nat_lt limit len ≡ false = grind (arith, nat_tests) in subst (λ (b : Bool). MatchBool b P Q) test holds
+
+-- an ending that the bytes of files decide
+abbrev pub IsDecided : Ending → Type 0
+IsDecided Done = Unit {0}
+IsDecided (File why) = Unit {0}
+IsDecided (Plan why) = Unit {0}
+IsDecided Memory = Unit {0}
+IsDecided ending = ⊥
+
+pub decided_as : (ending other : Ending) → ending ≡ other → IsDecided other → IsDecided ending
+decided_as ending other is decided = subst IsDecided (sym is) decided
+
+-- no program exits there
+pub no_exit : (exit steps : ℕ) → (Exited exit steps ≡ ReadFault) ⊎ IsDecided (Exited exit steps) → ⊥
+no_exit exit steps (inl is) = cc
+no_exit exit steps (inr decided) = decided
+
+-- an ending to which what was read brings the command, or want of memory, has its cause
+pub has_cause : (Brings : Ending → Type 0) (before now : FilesSeen) (ending : Ending) → Brings ending ⊎ (ending ≡ Memory) → HasReadCause Brings before now ending
+has_cause Brings before now ending (inr is) = subst (λ e. HasReadCause Brings before now e) (sym is) tt
+has_cause Brings before now ReadFault (inl brings) = inr brings
+has_cause Brings before now Memory (inl brings) = tt
+has_cause Brings before now Done (inl brings) = brings
+has_cause Brings before now (Exited exit steps) (inl brings) = brings
+has_cause Brings before now (Usage place) (inl brings) = brings
+has_cause Brings before now (File why) (inl brings) = brings
+has_cause Brings before now (Plan why) (inl brings) = brings
+has_cause Brings before now WriteFault (inl brings) = brings
+has_cause Brings before now (StillRunning steps) (inl brings) = brings
+has_cause Brings before now (Fault kind at steps) (inl brings) = brings
+has_cause Brings before now (Illegal at steps) (inl brings) = brings
+
+module _ (limit : ℕ) (Decide : List ℕ → Ending → Type 0) where
+  -- told contents have one ending
+  pub file_once : ((file : List ℕ) (a b : Ending) → Decide file a → Decide file b → a ≡ b)
+      → (file : Option (List ℕ)) (a b : Ending) → FileComes limit file Decide a → FileComes limit file Decide b → a ≡ b
+  file_once once None a b at_a at_b = at_a ∙ sym at_b
+  file_once once (Some file) a b at_a at_b = limit_once (nat_lt limit (length file)) (File TooLong) (Decide file) (once file) a b at_a at_b
+
+  -- a told file that was read is the one that decides
+  pub told_comes : (contents : Contents) (name file : List ℕ) (ending : Ending)
+      → contents_of contents name ≡ Some file → length file ≤ limit → Decide file ending → FileComes limit (contents_of contents name) Decide ending
+  told_comes contents name file ending is fits decides =
+      subst (λ (found : Option (List ℕ)). FileComes limit found Decide ending) (sym is)
+      (within limit (length file) (ending ≡ File TooLong) (Decide file ending) fits decides)
+
+  pub of_told_comes : (contents : Contents) (name file : List ℕ) (ending : Ending)
+      → contents_of contents name ≡ Some file → length file ≤ limit → FileComes limit (contents_of contents name) Decide ending → Decide file ending
+  of_told_comes contents name file ending is fits comes =
+      of_within limit (length file) (ending ≡ File TooLong) (Decide file ending) fits
+      (subst (λ (found : Option (List ℕ)). FileComes limit found Decide ending) is comes)
+
+  lacking_comes : (contents : Contents) (name : List ℕ) → contents_of contents name ≡ None → FileComes limit (contents_of contents name) Decide ReadFault
+  lacking_comes contents name is = subst (λ (found : Option (List ℕ)). FileComes limit found Decide ReadFault) (sym is) refl
+
+  long_comes : (found : Option (List ℕ)) → IsSomeAnd found (λ bytes. limit < length bytes) → FileComes limit found Decide (File TooLong)
+  long_comes None long = absurd long
+  long_comes (Some file) long =
+      let test : nat_lt limit (length file) ≡ true = grind (arith, nat_tests) in
+      subst (λ (b : Bool). MatchBool b (File TooLong ≡ File TooLong) (Decide file (File TooLong))) (sym test) refl
+
+  -- a file that wasn't read of told contents
+  pub no_file_comes : (contents : Contents) (name : List ℕ) (before now : FilesSeen) (ending : Ending)
+      → before.told ≡ Some contents → IsNoFile name limit before now ending → FileComes limit (contents_of contents name) Decide ending
+  no_file_comes contents name before now ending told (inl (is, lacks)) =
+      subst (λ e. FileComes limit (contents_of contents name) Decide e) (sym is)
+      (lacking_comes contents name (subst (λ seen. Lacks seen name) told lacks))
+  no_file_comes contents name before now ending told (inr (is, long)) =
+      subst (λ e. FileComes limit (contents_of contents name) Decide e) (sym is)
+      (long_comes (contents_of contents name) (subst (λ seen. IsTooLong seen name limit before.taken now.taken) told long))
+
+  -- only told contents lack a file
+  pub lacks_told : (told : Option Contents) (name : List ℕ) → Lacks told name
+      → (contents : Contents) × (told ≡ Some contents) × FileComes limit (contents_of contents name) Decide ReadFault
+  lacks_told None name none = absurd none
+  lacks_told (Some contents) name none = (contents, refl, lacking_comes contents name none)
+
+  -- the file is lacking, or its bytes decide
+  pub decided_file : ((file : List ℕ) (ending : Ending) → Decide file ending → IsDecided ending)
+      → (file : Option (List ℕ)) (ending : Ending) → FileComes limit file Decide ending → (ending ≡ ReadFault) ⊎ IsDecided ending
+  decided_file decided None ending is = inl is
+  decided_file decided (Some file) ending comes = inr (at (nat_lt limit (length file)) comes)
+    where
+      at : (test : Bool) → MatchBool test (ending ≡ File TooLong) (Decide file ending) → IsDecided ending
+      at true is = decided_as ending (File TooLong) is tt
+      at false decides = decided file ending decides
