@@ -3,7 +3,7 @@
 use Rattle.std.specs.Prelude.{ℕ, ◌/◌, ◌%◌, ◌==◌, List, [], ◌∷◌, Bool, not, ◌&&◌, ◌||◌, find, filter_map, Option, option_map, codes, bytes_eq}
 use Rattle.elf_spec.specs.declared.Symbol.{Symbol}
 use Rattle.elf_spec.specs.declared.HeapName.{HeapName}
-use Rattle.elf_spec.specs.declared.HeapName.TheVariants.{Malloc, Calloc, Realloc, Free}
+use Rattle.elf_spec.specs.declared.HeapName.TheVariants.{Malloc, Calloc, Realloc, Free, MallocR, CallocR, ReallocR, FreeR}
 use Rattle.elf_spec.specs.Tables.{symbols_of, symbol_name}
 
 abbrev pub heap_name : HeapName → List ℕ
@@ -11,6 +11,14 @@ heap_name Malloc = codes "malloc"
 heap_name Calloc = codes "calloc"
 heap_name Realloc = codes "realloc"
 heap_name Free = codes "free"
+heap_name MallocR = codes "_malloc_r"
+heap_name CallocR = codes "_calloc_r"
+heap_name ReallocR = codes "_realloc_r"
+heap_name FreeR = codes "_free_r"
+
+-- the names, in the order in which they are looked at: those of C, and their reentrant forms in newlib
+abbrev pub heap_names : List HeapName
+heap_names = Malloc ∷ Calloc ∷ Realloc ∷ Free ∷ MallocR ∷ CallocR ∷ ReallocR ∷ FreeR ∷ []
 
 abbrev pub is_heap_symbol : List ℕ → HeapName → Symbol → Bool
 is_heap_symbol file name s =
@@ -22,4 +30,4 @@ heap_entry file name = option_map (λ s. s.value) (find (is_heap_symbol file nam
 
 -- the addresses of all of them
 unfoldable pub heap_entries : List ℕ → List ℕ
-heap_entries file = filter_map (heap_entry file) (Malloc ∷ Calloc ∷ Realloc ∷ Free ∷ [])
+heap_entries file = filter_map (heap_entry file) heap_names

@@ -72,11 +72,16 @@ pub struct NewSegment {
     pub bytes: ByteList,
 }
 
-/// A heap function that an executable may have, by its name in C.
+/// A heap function that an executable may have: one of C, or its reentrant form in newlib (`_malloc_r`
+/// and so on), in the order in which they are looked at.
 #[derive(Clone, Copy, Debug, PartialEq, Eq)]
 pub enum HeapName {
     Malloc,
     Calloc,
     Realloc,
     Free,
+    MallocR,
+    CallocR,
+    ReallocR,
+    FreeR,
 }

@@ -126,16 +126,20 @@ fn heap_line(name: HeapName, wrong: &str) -> Line
     line
 }
 
-/// The name of a heap function in C.
+/// The name of a heap function.
 fn name_of(name: HeapName) -> &'static str
     ensures name { result.now ≡ heap_name name }
-    ensures short { length result.now ≤ 7 }
+    ensures short { length result.now ≤ 10 }
 {
     match name {
         HeapName::Malloc => "malloc",
         HeapName::Calloc => "calloc",
         HeapName::Realloc => "realloc",
         HeapName::Free => "free",
+        HeapName::MallocR => "_malloc_r",
+        HeapName::CallocR => "_calloc_r",
+        HeapName::ReallocR => "_realloc_r",
+        HeapName::FreeR => "_free_r",
     }
 }
 

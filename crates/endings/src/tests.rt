@@ -165,6 +165,10 @@ fn each_refusal_of_an_image_has_its_line(rt: HostRuntime) -> Result<(), Fail> {
             "halo: file: free small\n",
         ),
         (
+            FileRefusal::HeapEntrySmall(HeapName::MallocR),
+            "halo: file: _malloc_r small\n",
+        ),
+        (
             FileRefusal::AlreadyRewritten,
             "halo: file: already rewritten\n",
         ),

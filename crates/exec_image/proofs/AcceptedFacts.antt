@@ -1,15 +1,16 @@
 -- What the checks keep of an accepted file.
-use Rattle.std.proofs.Common.{◌≡◌, ℕ, ◌+◌, ◌-◌, ◌%◌, ◌<◌, ◌≤◌, ◌==◌, ◌&&◌, not, Bool, true, false, List, get_or, length, nat_eq, nat_le, nat_lt, refl, sym, subst, arith, Option, Some, None, is_some, option_map, if◌then◌else◌}
+use Rattle.std.proofs.Common.{◌≡◌, ℕ, ◌+◌, ◌-◌, ◌%◌, ◌<◌, ◌≤◌, ◌==◌, ◌&&◌, not, Bool, true, false, List, [], ◌∷◌, get_or, length, nat_eq, nat_le, nat_lt, refl, sym, subst, arith, Option, Some, None, is_some, option_map, if◌then◌else◌}
 use Rattle.std.specs.List.{All, find, list_any}
 use Rattle.std.proofs.lemmas.Bool.Decides.{nat_tests}
+use Rattle.std.proofs.lemmas.List.Elements.{All-cons, All-nil}
 use Rattle.std.proofs.lemmas.List.Folds.{Any-from_list_any}
 use Rattle.elf_spec.specs.declared.HeapName.{HeapName}
-use Rattle.elf_spec.specs.declared.HeapName.TheVariants.{Malloc, Calloc, Realloc, Free}
+use Rattle.elf_spec.specs.declared.HeapName.TheVariants.{Malloc, Calloc, Realloc, Free, MallocR, CallocR, ReallocR, FreeR}
 use Rattle.elf_spec.specs.declared.Section.{Section}
 use Rattle.elf_spec.specs.declared.Segment.{Segment}
 use Rattle.elf_spec.specs.Code.{code_place, code_word, holds_word, is_executable}
 use Rattle.elf_spec.specs.Fields.{is_set}
-use Rattle.elf_spec.specs.Heap.{heap_entry}
+use Rattle.elf_spec.specs.Heap.{heap_entry, heap_names}
 use Rattle.elf_spec.specs.Memory.{image_end, is_loaded}
 use Rattle.elf_spec.specs.Records.{e_entry, e_phnum, sections_of, segments_of}
 use Rattle.elf_read.specs.Checks.{is_shared}
@@ -23,7 +24,7 @@ use Rattle.exec_image.specs.Accepted.{AcceptedFacts, HasTwoWords, IsAlone, IsCod
 use Rattle.exec_image.specs.Checks.{descriptions, has_mark, is_place_of, uses_tp_at}
 use Rattle.exec_image.specs.HeapChecks.{is_small, lacks_words}
 use Rattle.exec_image.specs.Images.{IsAccepted}
-use Rattle.exec_image.specs.Refusals.{already_rewritten, entry_out, exec_outside, heap_entry_small, image_too_large, tp_used}
+use Rattle.exec_image.specs.Refusals.{already_rewritten, entry_out, exec_outside, heap_entry_small, image_too_large, tp_used, small_of}
 use Rattle.exec_image.proofs.CodePlaces.{IsPlaced, all_placed, all_words}
 use Rattle.exec_image.proofs.Finding.{found_in, found_passes, found_some}
 use Rattle.exec_image.proofs.ImageEnd.{ends_below, use_some}
@@ -106,21 +107,29 @@ two_words file name h a e =
     let (u, v) = both_false (not (is_some (code_word file a))) (not (is_some (code_word file (a + 4)))) z in
     (yes (is_some (code_word file a)) u, yes (is_some (code_word file (a + 4))) v)
 
+-- where no function of some names is too small, each has its two words
+none_small : (file : List ℕ) (names : List HeapName) → small_of file names ≡ None → All (HasTwoWords file) names
+none_small file [] h = All-nil (HasTwoWords file)
+none_small file (name ∷ names) h =
+    let (a, b) = none_both (when (is_small file name) (HeapEntrySmall name)) (small_of file names) h in
+    All-cons (HasTwoWords file) name names (two_words file name (not_when (is_small file name) (HeapEntrySmall name) a)) (none_small file names b)
+
 heap_words : (file : List ℕ) → heap_entry_small file ≡ None → (name : HeapName) → HasTwoWords file name
 unfolding heap_entry_small
-heap_words file h name =
-    let (a, h1) = none_both (when (is_small file Malloc) (HeapEntrySmall Malloc)) _ h in
-    let (b, h2) = none_both (when (is_small file Calloc) (HeapEntrySmall Calloc)) _ h1 in
-    let (c, h3) = none_both (when (is_small file Realloc) (HeapEntrySmall Realloc)) _ h2 in
-    let (d, h4) = none_both (when (is_small file Free) (HeapEntrySmall Free)) _ h3 in
-    each name a b c d
+heap_words file h name = by_name name
   where
-    each : (n : HeapName) → when (is_small file Malloc) (HeapEntrySmall Malloc) ≡ None → when (is_small file Calloc) (HeapEntrySmall Calloc) ≡ None
-        → when (is_small file Realloc) (HeapEntrySmall Realloc) ≡ None → when (is_small file Free) (HeapEntrySmall Free) ≡ None → HasTwoWords file n
-    each Malloc a b c d = two_words file Malloc (not_when (is_small file Malloc) (HeapEntrySmall Malloc) a)
-    each Calloc a b c d = two_words file Calloc (not_when (is_small file Calloc) (HeapEntrySmall Calloc) b)
-    each Realloc a b c d = two_words file Realloc (not_when (is_small file Realloc) (HeapEntrySmall Realloc) c)
-    each Free a b c d = two_words file Free (not_when (is_small file Free) (HeapEntrySmall Free) d)
+    all : All (HasTwoWords file) heap_names
+    all = none_small file heap_names h
+
+    by_name : (name : HeapName) → HasTwoWords file name
+    by_name Malloc = all 0 Malloc (omega arith)
+    by_name Calloc = all 1 Malloc (omega arith)
+    by_name Realloc = all 2 Malloc (omega arith)
+    by_name Free = all 3 Malloc (omega arith)
+    by_name MallocR = all 4 Malloc (omega arith)
+    by_name CallocR = all 5 Malloc (omega arith)
+    by_name ReallocR = all 6 Malloc (omega arith)
+    by_name FreeR = all 7 Malloc (omega arith)
 
 -- a code word is below the image's end
 code_below : (file : List ℕ) (a place : ℕ) → ReadableFacts file → IsCodeAt file a place → a < image_end (segments_of file)

@@ -2,8 +2,7 @@
 use Rattle.std.proofs.Common.{◌≡◌, ℕ, ◌+◌, ◌==◌, ◌||◌, List, [], ◌∷◌, refl, sym, ap, Option, Some, None}
 use Rattle.std.specs.List.{filter_map, list_any}
 use Rattle.elf_spec.specs.declared.HeapName.{HeapName}
-use Rattle.elf_spec.specs.declared.HeapName.TheVariants.{Malloc, Calloc, Realloc, Free}
-use Rattle.elf_spec.specs.Heap.{heap_entries, heap_entry}
+use Rattle.elf_spec.specs.Heap.{heap_entries, heap_entry, heap_names}
 use Rattle.site_spec.specs.Sites.{is_heap_word}
 use Rattle.exec_image.specs.declared.heap.HeapEntries.{HeapEntries}
 use Rattle.exec_image.specs.Calls.{is_word_of}
@@ -20,7 +19,7 @@ any_given a f (n ∷ names) = decide (f n) refl (any_given a f names)
     decide None h ih = rw h ih
 
 pub heap_word : (file : List ℕ) (heap : HeapEntries) (a : ℕ) → IsHeap file heap
-    → list_any (is_word_of a) (heap.malloc ∷ heap.calloc ∷ heap.realloc ∷ heap.free ∷ []) ≡ is_heap_word file a
+    → list_any (is_word_of a) (heap.malloc ∷ heap.calloc ∷ heap.realloc ∷ heap.free ∷ heap.malloc_r ∷ heap.calloc_r ∷ heap.realloc_r ∷ heap.free_r ∷ []) ≡ is_heap_word file a
 unfolding heap_entries
 heap_word file heap a h =
-    rw (h.malloc, h.calloc, h.realloc, h.free) (sym (any_given a (heap_entry file) (Malloc ∷ Calloc ∷ Realloc ∷ Free ∷ [])))
+    rw (h.malloc, h.calloc, h.realloc, h.free, h.malloc_r, h.calloc_r, h.realloc_r, h.free_r) (sym (any_given a (heap_entry file) heap_names))

@@ -1,7 +1,7 @@
 -- Where the code words are, as they are looked up: the parts of memory with code, and the segments
 -- that put them there.
 use Rattle.std.specs.Prelude.{◌≡◌, ℕ, ◌+◌, ◌-◌, ◌&&◌, Bool, List, map, filter, find, Option, None, option_map, nat_le, nat_lt}
-use Rattle.elf_spec.specs.declared.HeapName.TheVariants.{Malloc, Calloc, Realloc, Free}
+use Rattle.elf_spec.specs.declared.HeapName.TheVariants.{Malloc, Calloc, Realloc, Free, MallocR, CallocR, ReallocR, FreeR}
 use Rattle.elf_spec.specs.declared.Section.{Section}
 use Rattle.elf_spec.specs.declared.Segment.{Segment}
 use Rattle.elf_spec.specs.Code.{is_executable}
@@ -39,3 +39,7 @@ pub record IsHeap (file : List ℕ) (heap : HeapEntries) : Type 0 where
   pub calloc : heap.calloc ≡ heap_entry file Calloc
   pub realloc : heap.realloc ≡ heap_entry file Realloc
   pub free : heap.free ≡ heap_entry file Free
+  pub malloc_r : heap.malloc_r ≡ heap_entry file MallocR
+  pub calloc_r : heap.calloc_r ≡ heap_entry file CallocR
+  pub realloc_r : heap.realloc_r ≡ heap_entry file ReallocR
+  pub free_r : heap.free_r ≡ heap_entry file FreeR

@@ -1,17 +1,13 @@
 -- What the heap functions of an executable are refused for (gABI, "Symbol Table"). A heap function's
 -- first eight bytes are its two words.
-use Rattle.std.specs.Prelude.{ℕ, ◌+◌, ◌==◌, Bool, false, not, ◌&&◌, ◌||◌, List, [], ◌∷◌, filter, Option, Some, None, is_some, nat_le}
+use Rattle.std.specs.Prelude.{ℕ, ◌+◌, ◌==◌, Bool, false, not, ◌&&◌, ◌||◌, List, filter, Option, Some, None, is_some, nat_le}
 use Rattle.std.specs.List.{list_any}
 use Rattle.elf_spec.specs.declared.HeapName.{HeapName}
-use Rattle.elf_spec.specs.declared.HeapName.TheVariants.{Malloc, Calloc, Realloc, Free}
 use Rattle.elf_spec.specs.declared.Symbol.{Symbol}
 use Rattle.elf_spec.specs.Code.{code_word}
 use Rattle.elf_spec.specs.Heap.{heap_entry, is_heap_symbol}
 use Rattle.elf_spec.specs.Tables.{symbols_of}
 use Rattle.elf_read.specs.Checks.{is_shared}
-
-abbrev pub heap_names : List HeapName
-heap_names = Malloc ∷ Calloc ∷ Realloc ∷ Free ∷ []
 
 -- the symbols of a heap function
 abbrev pub heap_symbols : List ℕ → HeapName → List Symbol

@@ -5,6 +5,7 @@ use Rattle.std.specs.List.{list_any}
 use Rattle.elf_spec.specs.declared.HeapName.{HeapName}
 use Rattle.elf_spec.specs.declared.Section.{Section}
 use Rattle.elf_spec.specs.Code.{code_word, is_executable}
+use Rattle.elf_spec.specs.Heap.{heap_names}
 use Rattle.elf_spec.specs.Memory.{image_end}
 use Rattle.elf_spec.specs.Records.{e_entry, e_phnum, sections_of, segments_of}
 use Rattle.elf_read.specs.Refusals.{first_below, memory_size, refusal}
@@ -14,7 +15,7 @@ use Rattle.exec_image.specs.declared.refusals.FileRefusal.{FileRefusal}
 use Rattle.exec_image.specs.declared.refusals.FileRefusal.TheVariants.{Memory, Elf, Relocs, ExecNotWords, ExecOutside, EntryOut, HeapEntryTwice, HeapEntrySmall, AlreadyRewritten, ImageTooLarge, TpUsed}
 use Rattle.exec_image.specs.declared.refusals.ImagePart.TheVariants.{Headers, Bytes, End}
 use Rattle.exec_image.specs.Checks.{ends_above, has_mark, is_in_descriptions, is_not_words, is_place_of, uses_tp_at}
-use Rattle.exec_image.specs.HeapChecks.{heap_names, is_small, is_twice}
+use Rattle.exec_image.specs.HeapChecks.{is_small, is_twice}
 
 -- an executable section has no whole words
 unfoldable pub exec_not_words : List Section → Option FileRefusal

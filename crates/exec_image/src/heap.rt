@@ -31,6 +31,10 @@ pub struct HeapEntries {
     pub calloc: Option<u32>,
     pub realloc: Option<u32>,
     pub free: Option<u32>,
+    pub malloc_r: Option<u32>,
+    pub calloc_r: Option<u32>,
+    pub realloc_r: Option<u32>,
+    pub free_r: Option<u32>,
 }
 
 /// The address of one heap function.
@@ -43,6 +47,10 @@ pub fn entry_in(file: &[u8], heap: &HeapEntries, name: HeapName) -> Option<u32>
         HeapName::Calloc => heap.calloc,
         HeapName::Realloc => heap.realloc,
         HeapName::Free => heap.free,
+        HeapName::MallocR => heap.malloc_r,
+        HeapName::CallocR => heap.calloc_r,
+        HeapName::ReallocR => heap.realloc_r,
+        HeapName::FreeR => heap.free_r,
     }
 }
 
@@ -62,6 +70,10 @@ fn has_name(file: &[u8], s: &Symbol, name: HeapName) -> bool
         HeapName::Calloc => is_named(file, s, b"calloc"),
         HeapName::Realloc => is_named(file, s, b"realloc"),
         HeapName::Free => is_named(file, s, b"free"),
+        HeapName::MallocR => is_named(file, s, b"_malloc_r"),
+        HeapName::CallocR => is_named(file, s, b"_calloc_r"),
+        HeapName::ReallocR => is_named(file, s, b"_realloc_r"),
+        HeapName::FreeR => is_named(file, s, b"_free_r"),
     }
 }
 
@@ -104,6 +116,10 @@ pub fn read_heap(file: &[u8], symbols: &[Symbol]) -> HeapEntries
         calloc: find_entry(file, symbols, HeapName::Calloc),
         realloc: find_entry(file, symbols, HeapName::Realloc),
         free: find_entry(file, symbols, HeapName::Free),
+        malloc_r: find_entry(file, symbols, HeapName::MallocR),
+        calloc_r: find_entry(file, symbols, HeapName::CallocR),
+        realloc_r: find_entry(file, symbols, HeapName::ReallocR),
+        free_r: find_entry(file, symbols, HeapName::FreeR),
     }
 }
 
@@ -179,11 +195,19 @@ pub fn check_places(file: &[u8], symbols: &[Symbol], heap: &HeapEntries) -> Resu
         HeapName::Calloc,
         HeapName::Realloc,
         HeapName::Free,
+        HeapName::MallocR,
+        HeapName::CallocR,
+        HeapName::ReallocR,
+        HeapName::FreeR,
     ];
     check_place(file, symbols, heap, &names[..0], HeapName::Malloc)?;
     check_place(file, symbols, heap, &names[..1], HeapName::Calloc)?;
     check_place(file, symbols, heap, &names[..2], HeapName::Realloc)?;
-    check_place(file, symbols, heap, &names[..3], HeapName::Free)
+    check_place(file, symbols, heap, &names[..3], HeapName::Free)?;
+    check_place(file, symbols, heap, &names[..4], HeapName::MallocR)?;
+    check_place(file, symbols, heap, &names[..5], HeapName::CallocR)?;
+    check_place(file, symbols, heap, &names[..6], HeapName::ReallocR)?;
+    check_place(file, symbols, heap, &names[..7], HeapName::FreeR)
 }
 
 /// Whether one of the two words at an address is no code word.
@@ -264,5 +288,9 @@ pub fn check_sizes(
     check_size(file, segments, code, symbols, heap, HeapName::Malloc)?;
     check_size(file, segments, code, symbols, heap, HeapName::Calloc)?;
     check_size(file, segments, code, symbols, heap, HeapName::Realloc)?;
-    check_size(file, segments, code, symbols, heap, HeapName::Free)
+    check_size(file, segments, code, symbols, heap, HeapName::Free)?;
+    check_size(file, segments, code, symbols, heap, HeapName::MallocR)?;
+    check_size(file, segments, code, symbols, heap, HeapName::CallocR)?;
+    check_size(file, segments, code, symbols, heap, HeapName::ReallocR)?;
+    check_size(file, segments, code, symbols, heap, HeapName::FreeR)
 }

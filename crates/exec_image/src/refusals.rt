@@ -27,13 +27,17 @@ impl fmt::Display for ImagePart {
     }
 }
 
-/// The name of a heap function in C.
+/// The name of a heap function.
 fn name_of(name: &HeapName) -> &'static str {
     match name {
         HeapName::Malloc => "malloc",
         HeapName::Calloc => "calloc",
         HeapName::Realloc => "realloc",
         HeapName::Free => "free",
+        HeapName::MallocR => "_malloc_r",
+        HeapName::CallocR => "_calloc_r",
+        HeapName::ReallocR => "_realloc_r",
+        HeapName::FreeR => "_free_r",
     }
 }
 

@@ -174,7 +174,16 @@ pub fn is_heap_word(file: &[u8], heap: &HeapEntries, addr: u32) -> bool
     requires { IsHeap file.now heap.now }
     ensures { result ≡ is_heap_word file.now addr }
 {
-    let entries = [heap.malloc, heap.calloc, heap.realloc, heap.free];
+    let entries = [
+        heap.malloc,
+        heap.calloc,
+        heap.realloc,
+        heap.free,
+        heap.malloc_r,
+        heap.calloc_r,
+        heap.realloc_r,
+        heap.free_r,
+    ];
     is_word_of_one(&entries, addr)
 }
 

@@ -1,10 +1,9 @@
 -- The summary of an accepted executable: its entry, its executable sections in order of index, its heap
 -- functions, and the sites of its calls by address.
-use Rattle.std.specs.Prelude.{◌≡◌, ℕ, List, [], ◌∷◌, ◌++◌, codes, decimal, flat_map, if◌then◌else◌, Option, Some, None}
+use Rattle.std.specs.Prelude.{◌≡◌, ℕ, List, [], ◌++◌, codes, decimal, flat_map, if◌then◌else◌, Option, Some, None}
 use Rattle.text_fields.specs.Writing.{hex8}
 use Rattle.elf_spec.specs.declared.HeapName.{HeapName}
-use Rattle.elf_spec.specs.declared.HeapName.TheVariants.{Malloc, Calloc, Realloc, Free}
-use Rattle.elf_spec.specs.Heap.{heap_entry, heap_name}
+use Rattle.elf_spec.specs.Heap.{heap_entry, heap_name, heap_names}
 use Rattle.elf_spec.specs.Records.{e_entry}
 use Rattle.site_spec.specs.declared.Site.{Site}
 use Rattle.exec_image.specs.declared.execs.Exec.{Exec}
@@ -22,7 +21,7 @@ heap_line name (Some addr) = codes "heap " ++ heap_name name ++ codes " " ++ hex
 heap_line name None = []
 
 abbrev pub heap_lines : List ℕ → List ℕ
-heap_lines file = flat_map (λ name. heap_line name (heap_entry file name)) (Malloc ∷ Calloc ∷ Realloc ∷ Free ∷ [])
+heap_lines file = flat_map (λ name. heap_line name (heap_entry file name)) heap_names
 
 unfoldable pub site_line : Site → List ℕ
 site_line s =

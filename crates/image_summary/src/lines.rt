@@ -57,7 +57,7 @@ fn write_execs(alloc: Global, out: &mut Vec<u8>, execs: &[Exec]) -> Result<(), A
     Ok(())
 }
 
-/// The name of a heap function in C.
+/// The name of a heap function.
 fn name_of(name: HeapName) -> &'static str
     ensures { result.now ≡ heap_name name }
 {
@@ -66,6 +66,10 @@ fn name_of(name: HeapName) -> &'static str
         HeapName::Calloc => "calloc",
         HeapName::Realloc => "realloc",
         HeapName::Free => "free",
+        HeapName::MallocR => "_malloc_r",
+        HeapName::CallocR => "_calloc_r",
+        HeapName::ReallocR => "_realloc_r",
+        HeapName::FreeR => "_free_r",
     }
 }
 
@@ -90,6 +94,14 @@ fn write_heap(out: &mut Vec<u8>, image: &Image) -> Result<(), AllocError>
     write_heap_name(out, HeapName::Calloc, image.heap_entry(HeapName::Calloc))?;
     write_heap_name(out, HeapName::Realloc, image.heap_entry(HeapName::Realloc))?;
     write_heap_name(out, HeapName::Free, image.heap_entry(HeapName::Free))?;
+    write_heap_name(out, HeapName::MallocR, image.heap_entry(HeapName::MallocR))?;
+    write_heap_name(out, HeapName::CallocR, image.heap_entry(HeapName::CallocR))?;
+    write_heap_name(
+        out,
+        HeapName::ReallocR,
+        image.heap_entry(HeapName::ReallocR),
+    )?;
+    write_heap_name(out, HeapName::FreeR, image.heap_entry(HeapName::FreeR))?;
     Ok(())
 }
 

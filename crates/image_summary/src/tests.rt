@@ -16,10 +16,11 @@ const CALL: u8 = 18;
 
 const CALL_PLT: u8 = 19;
 
-/// Calls the function at 0x10118 by one word, and `malloc`, two EBREAK words at 0x1011c, by a pair.
-const CALLS: [u32; 9] = [
+/// Calls the function at 0x10118 by one word, and `malloc`, two EBREAK words at 0x1011c, by a pair;
+/// `_free_r` stands behind it.
+const CALLS: [u32; 11] = [
     0x018000ef, 0x00000097, 0x018080e7, 0x00000513, 0x05d00893, 0x00000073, 0x00008067, 0x00100073,
-    0x00100073,
+    0x00100073, 0x00100073, 0x00100073,
 ];
 
 /// A builder that has these words.
@@ -56,11 +57,13 @@ fn each_kind_of_line_is_written(rt: HostRuntime) -> Result<(), Fail> {
     let mut builder = begin(alloc, &CALLS)?;
     builder.symbol(alloc, "f", 0x10118, 4)?;
     builder.symbol(alloc, "malloc", 0x1011c, 8)?;
+    builder.symbol(alloc, "_free_r", 0x10124, 8)?;
     builder.reloc(entry(0x10100, JAL, 1))?;
     builder.reloc(entry(0x10104, CALL_PLT, 2))?;
     let file = builder.finish(alloc)?;
     let text = summary(alloc, &image(&rt, alloc, &file)?)?;
-    let wanted = b"entry 00010100\nexec 1 00010100 00000024\nheap malloc 0001011c\n\
+    let wanted =
+        b"entry 00010100\nexec 1 00010100 0000002c\nheap malloc 0001011c\nheap _free_r 00010124\n\
         site jal 00010100 00010118 near\nsite pair 00010104 0001011c near\nend\n";
     assert_eq!(rt; text.as_slice(), wanted.as_slice());
     Ok(())

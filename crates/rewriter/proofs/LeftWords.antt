@@ -4,9 +4,9 @@ use Rattle.std.specs.List.{filter_map, list_any}
 use Rattle.std.proofs.lemmas.Bool.Decides.{nat_tests}
 use Rattle.std.proofs.lemmas.List.Folds.{list_any_at}
 use Rattle.elf_spec.specs.declared.HeapName.{HeapName}
-use Rattle.elf_spec.specs.declared.HeapName.TheVariants.{Malloc, Calloc, Realloc, Free}
+use Rattle.elf_spec.specs.declared.HeapName.TheVariants.{Malloc, Calloc, Realloc, Free, MallocR, CallocR, ReallocR, FreeR}
 use Rattle.elf_spec.specs.Code.{code_place, code_word}
-use Rattle.elf_spec.specs.Heap.{heap_entries, heap_entry}
+use Rattle.elf_spec.specs.Heap.{heap_entries, heap_entry, heap_names}
 use Rattle.elf_spec.specs.Memory.{image_end}
 use Rattle.elf_spec.specs.Records.{segments_of}
 use Rattle.elf_read.proofs.Below.{below_none}
@@ -14,7 +14,9 @@ use Rattle.site_spec.specs.declared.Site.{Site}
 use Rattle.site_spec.specs.Sites.{call_at, is_heap_word, site_at}
 use Rattle.sym_spec.specs.SymTurns.{is_pair}
 use Rattle.exec_image.specs.Accepted.{AcceptedFacts}
+use Rattle.exec_image.specs.declared.heap.HeapEntries.{HeapEntries}
 use Rattle.exec_image.specs.Calls.{is_word_of}
+use Rattle.exec_image.specs.CodeParts.{IsHeap}
 use Rattle.exec_image.proofs.HeapWords.{heap_word}
 use Rattle.image_keeps.specs.Parts.{HasNoPairs}
 use Rattle.image_keeps.proofs.CodeMemory.{code_below}
@@ -73,23 +75,38 @@ no_pairs file facts none a s h =
 
 -- the first word of a heap function is one of its words
 own_word : (file : List ℕ) (a : ℕ) (name : HeapName) → heap_entry file name ≡ Some a → is_heap_word file a ≡ true
-own_word file a name h =
-    sym (heap_word file (record { malloc = heap_entry file Malloc; calloc = heap_entry file Calloc; realloc = heap_entry file Realloc; free = heap_entry file Free }) a
-    (record { malloc = refl; calloc = refl; realloc = refl; free = refl }))
-    ∙ at name (ap (is_word_of a) h ∙ first)
+own_word file a name h = sym (heap_word file entries a known) ∙ at name (ap (is_word_of a) h ∙ first)
   where
-    entries : List (Option ℕ)
-    entries = heap_entry file Malloc ∷ heap_entry file Calloc ∷ heap_entry file Realloc ∷ heap_entry file Free ∷ []
+    entries : HeapEntries
+    entries = record {
+      malloc = heap_entry file Malloc;
+      calloc = heap_entry file Calloc;
+      realloc = heap_entry file Realloc;
+      free = heap_entry file Free;
+      malloc_r = heap_entry file MallocR;
+      calloc_r = heap_entry file CallocR;
+      realloc_r = heap_entry file ReallocR;
+      free_r = heap_entry file FreeR;
+    }
+
+    known : IsHeap file entries
+    known = record { malloc = refl; calloc = refl; realloc = refl; free = refl; malloc_r = refl; calloc_r = refl; realloc_r = refl; free_r = refl }
+
+    all : List (Option ℕ)
+    all = entries.malloc ∷ entries.calloc ∷ entries.realloc ∷ entries.free ∷ entries.malloc_r ∷ entries.calloc_r ∷ entries.realloc_r ∷ entries.free_r ∷ []
 
     first : ((a == a) || (a + 4 == a)) ≡ true
     first = let e : (a == a) ≡ true = grind (arith, nat_tests) in rw e refl
 
-    at : (name : HeapName) → is_word_of a (heap_entry file name) ≡ true
-        → list_any (is_word_of a) entries ≡ true
-    at Malloc h = list_any_at (is_word_of a) entries 0 None (omega arith) h
-    at Calloc h = list_any_at (is_word_of a) entries 1 None (omega arith) h
-    at Realloc h = list_any_at (is_word_of a) entries 2 None (omega arith) h
-    at Free h = list_any_at (is_word_of a) entries 3 None (omega arith) h
+    at : (name : HeapName) → is_word_of a (heap_entry file name) ≡ true → list_any (is_word_of a) all ≡ true
+    at Malloc h = list_any_at (is_word_of a) all 0 None (omega arith) h
+    at Calloc h = list_any_at (is_word_of a) all 1 None (omega arith) h
+    at Realloc h = list_any_at (is_word_of a) all 2 None (omega arith) h
+    at Free h = list_any_at (is_word_of a) all 3 None (omega arith) h
+    at MallocR h = list_any_at (is_word_of a) all 4 None (omega arith) h
+    at CallocR h = list_any_at (is_word_of a) all 5 None (omega arith) h
+    at ReallocR h = list_any_at (is_word_of a) all 6 None (omega arith) h
+    at FreeR h = list_any_at (is_word_of a) all 7 None (omega arith) h
 
 none_given : (f : HeapName → Option ℕ) → ((name : HeapName) → f name ≡ None) → (names : List HeapName) → filter_map f names ≡ []
 none_given f h [] = refl
@@ -97,7 +114,7 @@ none_given f h (name ∷ names) = rw (h name) (none_given f h names)
 
 pub no_heap : (file : List ℕ) → AcceptedFacts file → not_yet file ≡ None → heap_entries file ≡ []
 unfolding heap_entries
-no_heap file facts none = none_given (heap_entry file) (λ name. lacks name (heap_entry file name) refl) (Malloc ∷ Calloc ∷ Realloc ∷ Free ∷ [])
+no_heap file facts none = none_given (heap_entry file) (λ name. lacks name (heap_entry file name) refl) heap_names
   where
     lacks : (name : HeapName) (o : Option ℕ) → heap_entry file name ≡ o → heap_entry file name ≡ None
     lacks name None e = e
