@@ -1,5 +1,5 @@
 -- What the passed checks say of a readable file.
-use Rattle.std.proofs.Common.{◌≡◌, ◌≢◌, ℕ, ◌+◌, ◌-◌, ◌*◌, ◌/◌, ◌<◌, ◌≤◌, Bool, true, false, not, ◌&&◌, ◌||◌, List, [], ◌∷◌, length, take, drop, nat_eq, nat_lt, refl, arith, Option, Some, None, length-drop, length-take}
+use Rattle.std.proofs.Common.{◌≡◌, ◌≢◌, ℕ, zero, suc, ◌+◌, ◌-◌, ◌*◌, ◌/◌, ◌^◌, ◌<◌, ◌≤◌, Bool, true, false, not, ◌&&◌, ◌||◌, List, [], ◌∷◌, length, take, drop, nat_eq, nat_lt, refl, arith, Option, Some, None, length-drop, length-take}
 use Rattle.std.specs.List.{All, find, list_any, prefix_len}
 use Rattle.std.proofs.lemmas.Bool.Decides.{nat_tests}
 use Rattle.std.proofs.lemmas.List.Elements.{All-nil, All-weaker}
@@ -11,14 +11,14 @@ use Rattle.elf_spec.specs.declared.Segment.{Segment}
 use Rattle.elf_spec.specs.declared.Section.{Section}
 use Rattle.elf_spec.specs.declared.Symbol.{Symbol}
 use Rattle.elf_spec.specs.Fields.{word_at}
-use Rattle.elf_spec.specs.Records.{e_phentsize, e_phnum, e_phoff, e_shentsize, e_shnum, e_shoff, sections_of, segments_of}
+use Rattle.elf_spec.specs.Records.{section_at, segment_at, e_phentsize, e_phnum, e_phoff, e_shentsize, e_shnum, e_shoff, sections_of, segments_of}
 use Rattle.elf_spec.specs.Tables.{is_symtab, strings_of, symbol_at, symbols_in, symbols_of}
 use Rattle.elf_read.specs.Checks.{has_header, is_ended, is_name_out, is_program_table_out, is_section_table_out, is_segment_out}
 use Rattle.elf_read.specs.Elf.{IsReadable}
 use Rattle.elf_read.specs.Readable.{IsLoadedInside, ReadableFacts}
 use Rattle.elf_read.specs.Refusals.{◌or_else◌, header_refusal, memory_size, name_out, name_out_in, not_elf, bad_flags, not_exec, not_riscv, wrong_class, wrong_order, wrong_version, program_table_out, section_out, section_table_out, segment_kind, segment_out, segment_overlap, too_large, too_many, when}
 use Rattle.elf_read.proofs.Below.{below_none}
-use Rattle.elf_read.proofs.Entries.{all_entries}
+use Rattle.elf_read.proofs.Entries.{all_entries, length-entries}
 use Rattle.elf_read.proofs.Sizes.{all_in, apart_pairs, not_some}
 use Rattle.elf_read.proofs.TablesInside.{stays, strings_inside, symbols_inside}
 
@@ -126,6 +126,8 @@ readable_facts file h =
     record {
       long = header.long;
       few = header.few;
+      segment_count = length-entries (segment_at file) 32 (e_phoff file) (e_phnum file);
+      section_count = length-entries (section_at file) 40 (e_shoff file) (e_shnum file);
       segment_table = table_inside (length file) 32 (e_phoff file) (e_phentsize file) (e_phnum file) (32 * e_phnum file) header.segments;
       section_table = table_inside (length file) 40 (e_shoff file) (e_shentsize file) (e_shnum file) (40 * e_shnum file) header.sections;
       segments = All-weaker (λ s. is_segment_out (length file) s ≡ false) (IsLoadedInside (length file)) (loaded_inside (length file)) (segments_of file)
@@ -137,3 +139,14 @@ readable_facts file h =
       strings = λ s e. strings_inside (length file) (sections_of file) s f e;
       names = names_inside file g;
     }
+
+few_of : (n at bytes : ℕ) → bytes < 2 ^ 32 → (0 < n → at + 40 * n ≤ bytes) → n < 2 ^ 32
+few_of zero at bytes s t = omega arith
+few_of (suc n) at bytes s t = let h : at + 40 * suc n ≤ bytes = t (omega arith) in omega arith
+
+-- the section headers of a file of fewer than 2^32 bytes are fewer than that
+pub few_sections : (sections : List Section) (file : List ℕ) → ReadableFacts file → length file < 2 ^ 32 → sections ≡ sections_of file
+    → length sections < 2 ^ 32
+few_sections sections file facts short is =
+    let few : e_shnum file < 2 ^ 32 = few_of (e_shnum file) (e_shoff file) (length file) short facts.section_table in
+    rw (is, facts.section_count) few

@@ -35,3 +35,4 @@ pub record IsReadFrom (elf : Elf) (file : List ℕ) : Type 0 where
   pub readable : IsReadable file
   pub fields : elf ≡ elf_of file
   pub facts : ReadableFacts file
+  pub few_sections : length elf.sections < 2 ^ 32

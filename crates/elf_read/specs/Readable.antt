@@ -25,6 +25,8 @@ IsSectionInside bytes s = s.kind ≢ 0 → s.kind ≢ 8 → s.offset + s.size �
 pub record ReadableFacts (file : List ℕ) : Type 0 where
   pub long : 52 ≤ length file
   pub few : e_phnum file ≤ 100
+  pub segment_count : length (segments_of file) ≡ e_phnum file
+  pub section_count : length (sections_of file) ≡ e_shnum file
   pub segment_table : 0 < e_phnum file → e_phoff file + 32 * e_phnum file ≤ length file
   pub section_table : 0 < e_shnum file → e_shoff file + 40 * e_shnum file ≤ length file
   pub segments : All (IsLoadedInside (length file)) (segments_of file)

@@ -5,6 +5,7 @@ mod elf_file;
 mod fields;
 mod flag_bits;
 mod header;
+mod laws;
 mod names;
 mod overlaps;
 mod read_file;
@@ -17,6 +18,7 @@ pub use elf_file::{Elf, SectionList, SegmentList, SymbolList};
 pub use elf_spec::{ByteList, HeapName, Reloc, Section, Segment, Symbol};
 pub use fields::{half, word};
 pub use flag_bits::{FileFlags, SectionFlags, SegmentFlags};
+pub use laws::{readable_files_keep_their_facts, the_first_number_that_passes_is_found};
 pub use read_file::read_elf;
 pub use refusals::{ElfRefusal, Table};
 

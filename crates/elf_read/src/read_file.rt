@@ -17,7 +17,7 @@ use std::alloc::Global;
 /// The headers and symbols of a file of fewer than 2^32 bytes, in the file's order; or the first
 /// check that it fails, in the order of the variants of `ElfRefusal`, with the lowest index; or
 /// `Memory`. The time is linear in the file.
-#[tactic(auto, using(crate::proofs::ReadableFacts::readable_facts))]
+#[tactic(auto, using(crate::proofs::ReadableFacts::readable_facts, crate::proofs::ReadableFacts::few_sections))]
 pub fn read_elf(alloc: Global, file: &[u8]) -> Result<Elf, ElfRefusal>
     requires { length file.now < 2 ^ 32 }
     ensures gives { Gives result file.now }

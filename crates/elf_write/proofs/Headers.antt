@@ -7,6 +7,7 @@ use Rattle.elf_spec.specs.declared.NewSegment.{NewSegment}
 use Rattle.elf_spec.specs.Fields.{word_at, word_bytes}
 use Rattle.elf_spec.specs.NewFile.{header_bytes, new_headers, contents, up4096}
 use Rattle.elf_spec.specs.Records.{entries, section_at, segment_at}
+use Rattle.elf_spec.proofs.Entries.{entries_first}
 use Rattle.elf_write.specs.Ends.{contents_end}
 use Rattle.elf_write.specs.Layout.{added_header, added_headers, file_part, IsWithin}
 use Rattle.elf_write.proofs.Written.{word_same}
@@ -27,14 +28,6 @@ entries-add f size at m (suc n) =
     let place : at + size * (m + n) ≡ at + size * m + size * n = omega arith in
     let first : entries f size at (m + n) ≡ entries f size at m ++ entries f size (at + size * m) n = entries-add f size at m n in
     rw e (rw (first, place) (append_assoc (entries f size at m) (entries f size (at + size * m) n) (f (at + size * m + size * n) ∷ [])))
-
--- a table's first record
-pub entries_first : {A : Type 0} (f : ℕ → A) (size at n : ℕ) → entries f size at (suc n) ≡ f at ∷ entries f size (at + size) n
-entries_first f size at n =
-    let e : suc n ≡ 1 + n = omega arith in
-    let a : at + size * 0 ≡ at = omega arith in
-    let b : at + size * 1 ≡ at + size = omega arith in
-    ap (entries f size at) e ∙ (entries-add f size at 1 n ∙ rw (a, b))
 
 -- headers of equal bytes are equal
 pub segment_same : (a b : List ℕ) (i j : ℕ) → ((k : ℕ) → k < 32 → slice_index a (i + k) ≡ slice_index b (j + k)) → segment_at a i ≡ segment_at b j

@@ -16,8 +16,6 @@ use Rattle.elf_spec.specs.Records.{e_entry, e_phnum, sections_of, segments_of}
 use Rattle.elf_read.specs.Checks.{is_shared}
 use Rattle.elf_read.specs.Readable.{IsInside, IsLoadedInside, ReadableFacts}
 use Rattle.elf_read.specs.Refusals.{first_below, memory_size, when}
-use Rattle.elf_read.proofs.ReadableFacts.{readable_facts}
-use Rattle.elf_read.proofs.Below.{below_none}
 use Rattle.exec_image.specs.declared.refusals.FileRefusal.TheVariants.{AlreadyRewritten, EntryOut, HeapEntrySmall, ImageTooLarge, TpUsed}
 use Rattle.exec_image.specs.declared.refusals.ImagePart.TheVariants.{Headers, Bytes}
 use Rattle.exec_image.specs.Accepted.{AcceptedFacts, HasTwoWords, IsAlone, IsCodeAt}
@@ -25,8 +23,9 @@ use Rattle.exec_image.specs.Checks.{descriptions, has_mark, is_place_of, uses_tp
 use Rattle.exec_image.specs.HeapChecks.{is_small, lacks_words}
 use Rattle.exec_image.specs.Images.{IsAccepted}
 use Rattle.exec_image.specs.Refusals.{already_rewritten, entry_out, exec_outside, heap_entry_small, image_too_large, tp_used, small_of}
+use Rattle.elf_read.specs.Elf.{IsReadable}
 use Rattle.exec_image.proofs.CodePlaces.{IsPlaced, all_placed, all_words}
-use Rattle.exec_image.proofs.Finding.{found_in, found_passes, found_some}
+use Rattle.exec_image.proofs.Finding.{NoneBelow, found_in, found_passes, found_some}
 use Rattle.exec_image.proofs.ImageEnd.{ends_below, use_some}
 use Rattle.exec_image.proofs.Passed.{Passed, accepted_end, both_false, no_inner, none_both, not_when, passed}
 use Rattle.exec_image.proofs.PlanFits.{none_of_any}
@@ -140,9 +139,9 @@ code_below file a place r c =
     let fits : g.file_size ≤ g.mem_size = (subst (IsLoadedInside (length file)) e (r.segments j g n) l).fits in
     omega (arith, end, fits, u)
 
-no_use : (file : List ℕ) → ReadableFacts file → exec_outside file ≡ None → tp_used file ≡ None → (a : ℕ) → uses_tp_at file a ≡ false
+no_use : NoneBelow → (file : List ℕ) → ReadableFacts file → exec_outside file ≡ None → tp_used file ≡ None → (a : ℕ) → uses_tp_at file a ≡ false
 unfolding tp_used
-no_use file r h n a = by_use (uses_tp_at file a) refl
+no_use none_below file r h n a = by_use (uses_tp_at file a) refl
   where
     none : first_below (uses_tp_at file) (image_end (segments_of file)) ≡ None
     none = no_inner TpUsed (first_below (uses_tp_at file) (image_end (segments_of file))) n
@@ -152,7 +151,7 @@ no_use file r h n a = by_use (uses_tp_at file a) refl
     by_use true e = by_place (code_place file a) refl
       where
         by_place : (o : Option ℕ) → code_place file a ≡ o → uses_tp_at file a ≡ false
-        by_place (Some place) q = below_none (uses_tp_at file) (image_end (segments_of file)) none a (code_below file a place r (code_at file a place r h q))
+        by_place (Some place) q = (none_below (uses_tp_at file) (image_end (segments_of file))).0 none a (code_below file a place r (code_at file a place r h q))
         by_place None q = absurd (let t : is_some (code_place file a) ≡ true = use_some file a e in let f : false ≡ true = rw q at t in cc)
 
 record HasRoom (file : List ℕ) : Type 0 where
@@ -179,11 +178,11 @@ no_mark : (file : List ℕ) → already_rewritten file ≡ None → All (λ g. h
 unfolding already_rewritten
 no_mark file h = none_of_any (has_mark file) (segments_of file) (not_when (list_any (has_mark file) (segments_of file)) AlreadyRewritten h)
 
-pub accepted_facts : (file : List ℕ) → IsAccepted file → AcceptedFacts file
-accepted_facts file h =
+pub accepted_facts : ((file : List ℕ) → IsReadable file → ReadableFacts file) → NoneBelow → (file : List ℕ) → IsAccepted file → AcceptedFacts file
+accepted_facts readable none_below file h =
     let p : Passed file = passed file h in
     let q : HasRoom file = room file p.room in
-    let r : ReadableFacts file = readable_facts file p.headers in
+    let r : ReadableFacts file = readable file p.headers in
     record {
       readable = p.headers;
       facts = r;
@@ -196,5 +195,5 @@ accepted_facts file h =
       few = q.few;
       memory = q.memory;
       end = accepted_end file h;
-      no_tp = no_use file r p.inside p.no_tp;
+      no_tp = no_use none_below file r p.inside p.no_tp;
     }

@@ -11,7 +11,6 @@ use Rattle.elf_spec.specs.Memory.{is_loaded}
 use Rattle.elf_spec.specs.Records.{sections_of, segments_of}
 use Rattle.elf_read.specs.Checks.{is_shared, meets}
 use Rattle.elf_read.specs.Readable.{IsInside, IsLoadedInside}
-use Rattle.elf_read.proofs.Finds.{none_passes}
 use Rattle.exec_image.specs.declared.parts.Part.{Part}
 use Rattle.exec_image.specs.declared.refusals.FileRefusal.{FileRefusal}
 use Rattle.exec_image.specs.declared.refusals.FileRefusal.TheVariants.{ExecNotWords, ExecOutside}
@@ -20,7 +19,7 @@ use Rattle.exec_image.specs.Checks.{is_in_descriptions, is_not_words, is_place_o
 use Rattle.exec_image.specs.CodeParts.{IsCode, code_parts, holds_in_file, place_in}
 use Rattle.exec_image.specs.Parts.{is_meeting}
 use Rattle.exec_image.specs.Refusals.{exec_not_words, exec_outside, is_outside}
-use Rattle.exec_image.proofs.Finding.{any_of_kept, any_same, found_alike, found_in, found_none, found_passes, found_some}
+use Rattle.exec_image.proofs.Finding.{any_of_kept, any_same, found_alike, found_in, found_none, found_passes, found_some, none_passes}
 use Rattle.exec_image.proofs.Meeting.{meets_same}
 
 -- what the passed checks say of each executable section

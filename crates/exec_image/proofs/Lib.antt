@@ -1,4 +1,6 @@
 pub mod Finding
+mod Headers
+mod Absent
 mod Running
 mod Meeting
 mod LastBegun

@@ -13,7 +13,6 @@ use Rattle.std.proofs.lemmas.Map.Made.{IsDistinct-from_AllPairs}
 use Rattle.std.proofs.lemmas.Map.Steps.{length-le_from_distinct_below}
 use Rattle.std.proofs.lemmas.Nat.{bit_set_by_shift}
 use Rattle.elf_read.specs.Refusals.{first_below}
-use Rattle.elf_read.proofs.Below.{below_none}
 use Rattle.plan_core.specs.declared.types.Plan.{Plan}
 use Rattle.plan_core.specs.declared.types.PlanLine.{PlanLine}
 use Rattle.plan_core.specs.declared.types.Row.{Row}
@@ -26,7 +25,7 @@ use Rattle.elf_read.specs.Refusals.{◌or_else◌, Says, when}
 use Rattle.exec_image.specs.declared.plan_fault.PlanFault.{PlanFault}
 use Rattle.exec_image.specs.declared.plan_fault.PlanFault.TheVariants.{PlanSite, PlanBit, PlanRow, AreaTooLarge, SiteOutOfReach}
 use Rattle.exec_image.specs.PlanFaults.{area_too_large, bad_row, bad_row_from, is_far, is_strange_bit, no_bit, no_bit_from, no_site, no_site_from, out_of_reach, out_of_reach_from, plan_fault, strange_mask, strange_masks}
-use Rattle.exec_image.proofs.Finding.{below_all, pairs_head, pairs_tail}
+use Rattle.exec_image.proofs.Finding.{NoneBelow, pairs_head, pairs_tail}
 use Rattle.exec_image.proofs.Passed.{both_false, none_both, not_when}
 use Rattle.exec_image.proofs.SiteShape.{shape}
 
@@ -143,12 +142,12 @@ line_of lines n h =
 has_line : (lines : List PlanLine) (n : ℕ) → Any (λ line. line.bit ≡ n) lines → list_any (λ l. l.bit == n) lines ≡ true
 has_line lines n (k, x, l, g, e) = list_any-from_Any (λ l. l.bit == n) lines (k, x, l, g, grind (arith, nat_tests))
 
-mask_lines : (lines : List PlanLine) (mask : ℕ) → mask < 2 ^ 32 → strange_mask lines mask ≡ None → HasLines lines mask
+mask_lines : NoneBelow → (lines : List PlanLine) (mask : ℕ) → mask < 2 ^ 32 → strange_mask lines mask ≡ None → HasLines lines mask
 unfolding strange_mask
-mask_lines lines mask m h n set = elim (cases_lt n 32) [
+mask_lines none_below lines mask m h n set = elim (cases_lt n 32) [
   | inl l ↦
       let b : first_below (is_strange_bit lines mask) 32 ≡ None = no_map (first_below (is_strange_bit lines mask) 32) h in
-      let e : is_strange_bit lines mask n ≡ false = below_none (is_strange_bit lines mask) 32 b n l in
+      let e : is_strange_bit lines mask n ≡ false = (none_below (is_strange_bit lines mask) 32).0 b n l in
       line_of lines n (known_line (bit_and mask (2 ^ n)) (list_any (λ l. l.bit == n) lines) set e)
   | inr l ↦ absurd (high_bit mask n m l set)
 ]
@@ -161,26 +160,26 @@ mask_lines lines mask m h n set = elim (cases_lt n 32) [
     known_line x true n e = refl
     known_line x false n e = absurd (let d : (x == 0) ≡ false = same x 0 n in let q : true ≡ false = rw d at e in cc)
 
-mask_none : (lines : List PlanLine) (mask : ℕ) → HasLines lines mask → strange_mask lines mask ≡ None
+mask_none : NoneBelow → (lines : List PlanLine) (mask : ℕ) → HasLines lines mask → strange_mask lines mask ≡ None
 unfolding strange_mask
-mask_none lines mask h =
-    ap (option_map PlanBit) (below_all (is_strange_bit lines mask) 32 (λ n l. decide n (bit_and mask (2 ^ n) == 0) refl))
+mask_none none_below lines mask h =
+    ap (option_map PlanBit) ((none_below (is_strange_bit lines mask) 32).1 (λ n l. decide n (bit_and mask (2 ^ n) == 0) refl))
   where
     decide : (n : ℕ) (b : Bool) → (bit_and mask (2 ^ n) == 0) ≡ b → is_strange_bit lines mask n ≡ false
     decide n true e = rw e refl
     decide n false e = rw (e, has_line lines n (h n (differ (bit_and mask (2 ^ n)) 0 e))) refl
 
-masks_lines : (lines : List PlanLine) (rows : List Row) → All (λ r. r.mask < 2 ^ 32) rows → strange_masks lines rows ≡ None → All (λ row. HasLines lines row.mask) rows
-masks_lines lines [] b h = All-nil (λ row. HasLines lines row.mask)
-masks_lines lines (r ∷ rs) b h =
+masks_lines : NoneBelow → (lines : List PlanLine) (rows : List Row) → All (λ r. r.mask < 2 ^ 32) rows → strange_masks lines rows ≡ None → All (λ row. HasLines lines row.mask) rows
+masks_lines none_below lines [] b h = All-nil (λ row. HasLines lines row.mask)
+masks_lines none_below lines (r ∷ rs) b h =
     let (x, y) = none_both (strange_mask lines r.mask) (strange_masks lines rs) h in
-    All-cons (λ row. HasLines lines row.mask) r rs (mask_lines lines r.mask (All-head (λ r. r.mask < 2 ^ 32) r rs b) x)
-    (masks_lines lines rs (All-tail (λ r. r.mask < 2 ^ 32) r rs b) y)
+    All-cons (λ row. HasLines lines row.mask) r rs (mask_lines none_below lines r.mask (All-head (λ r. r.mask < 2 ^ 32) r rs b) x)
+    (masks_lines none_below lines rs (All-tail (λ r. r.mask < 2 ^ 32) r rs b) y)
 
-masks_none : (lines : List PlanLine) (rows : List Row) → All (λ row. HasLines lines row.mask) rows → strange_masks lines rows ≡ None
-masks_none lines [] h = refl
-masks_none lines (r ∷ rs) h =
-    rw (mask_none lines r.mask (All-head (λ row. HasLines lines row.mask) r rs h)) (masks_none lines rs (All-tail (λ row. HasLines lines row.mask) r rs h))
+masks_none : NoneBelow → (lines : List PlanLine) (rows : List Row) → All (λ row. HasLines lines row.mask) rows → strange_masks lines rows ≡ None
+masks_none none_below lines [] h = refl
+masks_none none_below lines (r ∷ rs) h =
+    rw (mask_none none_below lines r.mask (All-head (λ row. HasLines lines row.mask) r rs h)) (masks_none none_below lines rs (All-tail (λ row. HasLines lines row.mask) r rs h))
 
 -- the reach
 reach_of : (file : List ℕ) (l : PlanLine) (k : ℕ) → is_far file k (site_at file l.addr) ≡ false → IsInReach file (Some l) k
@@ -230,9 +229,9 @@ some_of : (b : Bool) → not b ≡ false → b ≡ true
 some_of true h = refl
 some_of false h = absurd (cc)
 
-pub fits_of : (file : List ℕ) (plan : Plan) → All (λ r. r.mask < 2 ^ 32) plan.rows → plan_fault file plan ≡ None → Fits file plan
+pub fits_of : NoneBelow → (file : List ℕ) (plan : Plan) → All (λ r. r.mask < 2 ^ 32) plan.rows → plan_fault file plan ≡ None → Fits file plan
 unfolding no_site no_bit bad_row area_too_large out_of_reach
-fits_of file plan bound h =
+fits_of none_below file plan bound h =
     let (a, h1) = none_both (no_site file plan.sites) _ h in
     let (b, h2) = none_both (no_bit plan.sites) _ h1 in
     let (c, h3) = none_both (strange_masks plan.sites plan.rows) _ h2 in
@@ -248,7 +247,7 @@ fits_of file plan bound h =
       once = s.apart;
       bits = λ k d l. low_bit (get_or plan.sites k d).bit (t.good k d l);
       own_bits = t.apart;
-      masks = masks_lines plan.sites plan.rows bound c;
+      masks = masks_lines none_below plan.sites plan.rows bound c;
       groups = groups;
       few_rows = omega (arith, few);
       log_chunk = log;
@@ -260,9 +259,9 @@ fits_of file plan bound h =
     low_bit : (n : ℕ) → nat_le 32 n ≡ false → n < 32
     low_bit n h = grind (arith, nat_tests)
 
-pub fault_of : (file : List ℕ) (plan : Plan) → Fits file plan → plan_fault file plan ≡ None
+pub fault_of : NoneBelow → (file : List ℕ) (plan : Plan) → Fits file plan → plan_fault file plan ≡ None
 unfolding no_site no_bit bad_row area_too_large out_of_reach
-fault_of file plan h =
+fault_of none_below file plan h =
     let a : no_site file plan.sites ≡ None =
     site_scan file [] plan.sites ∙ unscanned (λ l. not (is_some (site_at file l.addr))) (λ l. l.addr) (λ l. PlanSite l.addr) [] plan.sites (record {
       good = λ k d l. let e : is_some (site_at file (get_or plan.sites k d).addr) ≡ true = h.sites k d l in rw e refl;
@@ -275,7 +274,7 @@ fault_of file plan h =
       apart = h.own_bits;
       fresh = λ k d l. All-nil (λ m. m.bit ≢ (get_or plan.sites k d).bit);
     }) in
-    let c : strange_masks plan.sites plan.rows ≡ None = masks_none plan.sites plan.rows h.masks in
+    let c : strange_masks plan.sites plan.rows ≡ None = masks_none none_below plan.sites plan.rows h.masks in
     let d : bad_row plan.rows ≡ None = rows_none 0 plan.rows (omega (arith, h.few_rows)) (omega arith) h.groups in
     let e : area_too_large plan.area ≡ None = ap (λ b. when b AreaTooLarge) (area_none plan.area.log_chunk plan.area.chunks (granules plan.area) h.log_chunk h.chunks h.area) in
     let f : out_of_reach file plan.sites ≡ None = reach_none file 0 plan.sites (λ j. let z : 0 + j ≡ j = omega arith in rw z (h.reach j)) in
@@ -311,14 +310,14 @@ few_lines lines h =
     omega (arith, n, m)
 
 -- what is said of a fault says whether the plan fits
-pub says_fits : (r : Result (Unit {0}) PlanFault) (file : List ℕ) (plan : Plan) → Says r (plan_fault file plan) → OnOk r (All (λ r. r.mask < 2 ^ 32) plan.rows) → OnOk r (Fits file plan)
-says_fits (Ok x) file plan h b = fits_of file plan b h
-says_fits (Err why) file plan h b = tt
+pub says_fits : NoneBelow → (r : Result (Unit {0}) PlanFault) (file : List ℕ) (plan : Plan) → Says r (plan_fault file plan) → OnOk r (All (λ r. r.mask < 2 ^ 32) plan.rows) → OnOk r (Fits file plan)
+says_fits none_below (Ok x) file plan h b = fits_of none_below file plan b h
+says_fits none_below (Err why) file plan h b = tt
 
-pub says_misfits : (r : Result (Unit {0}) PlanFault) (file : List ℕ) (plan : Plan) → Says r (plan_fault file plan) → OnErr r (Fits file plan → ⊥)
-says_misfits (Ok x) file plan h = tt
-says_misfits (Err why) file plan h = λ f. let q : None ≡ Some why = sym (fault_of file plan f) ∙ h in absurd (cc)
+pub says_misfits : NoneBelow → (r : Result (Unit {0}) PlanFault) (file : List ℕ) (plan : Plan) → Says r (plan_fault file plan) → OnErr r (Fits file plan → ⊥)
+says_misfits none_below (Ok x) file plan h = tt
+says_misfits none_below (Err why) file plan h = λ f. let q : None ≡ Some why = sym (fault_of none_below file plan f) ∙ h in absurd (cc)
 
 -- no bit below 32 passes where none below a number of at least 32 does
-pub all_bits : (p : ℕ → Bool) (n : ℕ) → first_below p n ≡ None → 32 ≤ n → first_below p 32 ≡ None
-all_bits p n h l = below_all p 32 (λ b i. below_none p n h b (omega (arith, i, l)))
+pub all_bits : NoneBelow → (p : ℕ → Bool) (n : ℕ) → first_below p n ≡ None → 32 ≤ n → first_below p 32 ≡ None
+all_bits none_below p n h l = (none_below p 32).1 (λ b i. (none_below p n).0 h b (omega (arith, i, l)))

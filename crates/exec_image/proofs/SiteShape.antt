@@ -5,7 +5,7 @@ use Rattle.rv_isa.specs.declared.Instr.{Instr}
 use Rattle.rv_isa.specs.declared.Instr.TheVariants.{Lui, Auipc, Jal, Jalr, Branch, Load, Store, OpImm, Reg, Fence, Ecall, Ebreak}
 use Rattle.elf_spec.specs.Relocations.{has_reloc, relocs_of}
 use Rattle.site_spec.specs.declared.Site.{Site}
-use Rattle.site_spec.specs.Places.{plus}
+use Rattle.rv_isa.specs.Addresses.{plus}
 use Rattle.site_spec.specs.Sites.{call_at, code_at, is_call_of_code, kept_site, reaches_all_stubs, site_at}
 
 abbrev pub IsJal : List ℕ → ℕ → Site → Type 0

@@ -2,7 +2,8 @@
 use Rattle.std.proofs.Common.{◌≡◌, ℕ, ◌+◌, ◌^◌, ◌%◌, ◌&&◌, Bool, true, false, List, [], ◌∷◌, ◌++◌, nat_le, refl, sym, ap, ◌∙◌, arith}
 use Rattle.std.specs.List.{list_all}
 use Rattle.std.proofs.lemmas.Bool.Decides.{nat_tests}
-use Rattle.site_spec.specs.Places.{plus, reaches, stub_at, text_at}
+use Rattle.rv_isa.specs.Addresses.{plus}
+use Rattle.site_spec.specs.Places.{reaches, stub_at, text_at}
 use Rattle.site_spec.specs.Sites.{reaches_all_stubs, stub_numbers}
 
 all_of : (p q : ℕ → Bool) → ((k : ℕ) → q k ≡ true → p k ≡ true) → (ks : List ℕ) → list_all q ks ≡ true → list_all p ks ≡ true

@@ -14,7 +14,7 @@ use Rattle.elf_spec.specs.Records.{e_phnum, e_phoff, e_shnum, e_shoff, sections_
 use Rattle.elf_spec.specs.Relocations.{is_kept_rela}
 use Rattle.elf_spec.specs.Tables.{is_symtab, strings_of}
 use Rattle.elf_read.specs.Checks.{is_shared}
-use Rattle.site_spec.specs.Rewritten.{mark}
+use Rattle.new_file_spec.specs.Rewritten.{mark}
 
 -- a section begins in the middle of a word of four bytes, or ends there
 abbrev pub is_not_words : Section → Bool

@@ -42,7 +42,7 @@ fn of_relocs(why: RelocRefusal) -> FileRefusal
 }
 
 /// The checks of the entry, the heap functions, the segments and the code's registers.
-#[tactic(auto, using(reloc_table::proofs::Sections::count_segments))]
+#[tactic(auto, using(crate::proofs::Headers::count_segments))]
 fn check_image(file: &[u8], elf: &Elf, code: &[Part], heap: &HeapEntries) -> Result<(), FileRefusal>
     requires read { IsReadFrom elf.now file.now }
     requires code { IsCode file.now elf.now.segments code.now }
@@ -62,7 +62,7 @@ fn check_image(file: &[u8], elf: &Elf, code: &[Part], heap: &HeapEntries) -> Res
 /// Accepts a file of fewer than 2^32 bytes as an executable; or names the first check that it fails,
 /// in the order of the variants of `FileRefusal`, with the lowest index or address; or answers
 /// `Memory`. Time and memory are linear in the file, but for sorting, however its sections overlap.
-#[tactic(auto, using(reloc_table::proofs::Sections::few_sections))]
+#[tactic(auto, using(crate::proofs::Headers::few_sections))]
 pub fn accept(alloc: Global, file: &[u8]) -> Result<Image, FileRefusal>
     requires { length file.now < 2 ^ 32 }
     ensures { GivesImage result file.now }

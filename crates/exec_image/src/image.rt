@@ -1,16 +1,18 @@
 // An accepted executable.
 
-ghost use Rattle.std.specs.Prelude.{◌≡◌, ℕ, Bool, ◌+◌, ◌<◌, ◌≤◌, true, None, length, slice_get, IfNone, IfOk, IfSome, IsSome};
+ghost use Rattle.std.specs.Prelude.{◌≡◌, ℕ, Bool, ◌+◌, ◌%◌, ◌<◌, ◌≤◌, ◌↔◌, ◌&&◌, true, false, None, Some, length, slice_get, All, IfNone, IfOk, IfSome, IsSome};
 ghost use Rattle.std.specs.List.{list_any};
 ghost use Rattle.elf_spec.specs.declared.Reloc.{Reloc};
-ghost use Rattle.elf_spec.specs.Code.{code_place, code_word};
-ghost use Rattle.elf_spec.specs.Heap.{heap_entry};
+ghost use Rattle.elf_spec.specs.Code.{code_place, code_word, holds_word, is_executable};
+ghost use Rattle.elf_spec.specs.Heap.{heap_entry, is_heap_symbol};
 ghost use Rattle.elf_spec.specs.Memory.{image_end};
-ghost use Rattle.elf_spec.specs.Records.{segments_of};
+ghost use Rattle.elf_spec.specs.Records.{sections_of, segments_of};
 ghost use Rattle.elf_spec.specs.Relocations.{relocs_of};
+ghost use Rattle.elf_spec.specs.Tables.{symbols_of};
 ghost use Rattle.elf_read.specs.Elf.{IsReadFrom};
+ghost use Rattle.site_spec.specs.declared.Site.{Site as Call};
 ghost use Rattle.site_spec.specs.Places.{text_at};
-ghost use Rattle.site_spec.specs.Sites.{is_heap_word, site_at};
+ghost use Rattle.site_spec.specs.Sites.{call_at, code_at, is_call_of_code, is_heap_word, site_at};
 ghost use Rattle.exec_image.specs.Accepted.{AcceptedFacts};
 ghost use Rattle.exec_image.specs.CodeParts.{IsCode, IsHeap};
 ghost use Rattle.exec_image.specs.Images.{AreSites, IsAccepted, execs_of, file_part, is_loaded_one};
@@ -20,6 +22,7 @@ use crate::code::{code_place, code_word, next_code_word};
 use crate::execs::{Execs, read_execs};
 use crate::file_bytes::bytes_at;
 use crate::heap::{HeapEntries, entry_in};
+use crate::laws::accepted_files_keep_their_facts;
 use crate::parts::Part;
 use crate::segments::text_place;
 use crate::sites::{Sites, find_site, is_heap_word, read_sites};
@@ -54,7 +57,7 @@ impl Model for Image {
 }
 
 /// The image of an accepted file, from what was read of it; `relocs` are its entries in any order.
-#[tactic(auto, using(reloc_table::proofs::Sections::few_sections, crate::proofs::Passed::accepted_end, crate::proofs::CallKinds::calls_same), unfolding(crate::specs::Images::execs_of))]
+#[tactic(auto, using(crate::proofs::Headers::few_sections, crate::proofs::Passed::accepted_end, crate::proofs::CallKinds::calls_same), unfolding(crate::specs::Images::execs_of))]
 pub fn image_of(
     alloc: Global,
     file: &[u8],
@@ -97,14 +100,19 @@ impl Image {
 
     /// The site at an address; `None` where there is none.
     pub fn site(&self, addr: u32) -> Option<Site>
-        ensures { result ≡ site_at self.now addr }
+        ensures exact { result ≡ site_at self.now addr }
+        ensures none { (result ≡ None) ↔ ((s : Call)
+            → call_at self.now addr (code_at self.now addr) (code_at self.now (addr + 4)) ≡ Some s
+            → is_call_of_code self.now s ≡ false) }
     {
         find_site(&self.file, self.sites.as_slice(), addr)
     }
 
     /// The address of a heap function; `None` where the executable lacks it.
     pub fn heap_entry(&self, name: HeapName) -> Option<u32>
-        ensures { result ≡ heap_entry self.now name }
+        ensures exact { result ≡ heap_entry self.now name }
+        ensures none { (result ≡ None)
+            ↔ All (λ s. is_heap_symbol self.now name s ≡ false) (symbols_of self.now) }
     {
         entry_in(&self.file, &self.heap, name)
     }
@@ -139,6 +147,7 @@ impl Image {
         ensures accepted { IsAccepted self.now }
         ensures facts { AcceptedFacts self.now }
     {
+        accepted_files_keep_their_facts();
         &self.elf
     }
 
@@ -160,7 +169,9 @@ impl Image {
 
     /// The code word at an address; `None` where the address is no code word.
     pub fn code_word(&self, addr: u32) -> Option<u32>
-        ensures { result ≡ code_word self.now addr }
+        ensures exact { result ≡ code_word self.now addr }
+        ensures none { (result ≡ None) ↔ (addr % 4 ≡ 0
+            → All (λ s. (is_executable s && holds_word addr s) ≡ false) (sections_of self.now)) }
     {
         code_word(&self.file, self.elf.segments.as_slice(), &self.code, addr)
     }

@@ -98,7 +98,7 @@ fn first_outside(
 }
 
 /// Checks that the executable sections are in segments of code, and that none describes the file.
-#[tactic(auto, using(reloc_table::proofs::Sections::few_sections), unfolding(crate::specs::Refusals::exec_outside))]
+#[tactic(auto, using(crate::proofs::Headers::few_sections), unfolding(crate::specs::Refusals::exec_outside))]
 pub fn check_outside(alloc: Global, elf: &Elf, file: &[u8]) -> Result<(), FileRefusal>
     requires { IsReadFrom elf.now file.now }
     ensures { MaySay result (exec_outside file.now) }

@@ -12,6 +12,7 @@ ghost use Rattle.exec_image.specs.Images.{AreSites};
 use crate::image::Image;
 use crate::plan_fault::PlanFault;
 use crate::sites::{find_site, reaches, stub_place};
+use elf_read::the_first_number_that_passes_is_found;
 use plan_core::{Area, Plan, PlanLine, Row};
 use site_spec::Site;
 
@@ -78,10 +79,11 @@ fn is_strange_bit(lines: &[PlanLine], mask: u32, bit: u8) -> bool
 }
 
 /// Checks that a mask has bits of lines alone.
-#[tactic(auto, using(elf_read::proofs::Below::below_hit, elf_read::proofs::Below::below_more), unfolding(crate::specs::PlanFaults::strange_mask))]
+#[tactic(auto, using(crate::proofs::Finding::below_more), unfolding(crate::specs::PlanFaults::strange_mask))]
 fn check_mask(lines: &[PlanLine], mask: u32) -> Result<(), PlanFault>
     ensures { Says result (strange_mask lines.now mask) }
 {
+    the_first_number_that_passes_is_found();
     for bit in 0..BITS {
         if is_strange_bit(lines, mask, bit) {
             return Err(PlanFault::PlanBit(bit as u32));
@@ -190,5 +192,6 @@ pub fn check_plan(image: &Image, plan: &Plan) -> Result<(), PlanFault>
     ensures fits { OnOk result (Fits image.now plan.now) }
     ensures misfits { OnErr result (Fits image.now plan.now → ⊥) }
 {
+    the_first_number_that_passes_is_found();
     find_fault(image, plan)
 }

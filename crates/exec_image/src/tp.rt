@@ -9,6 +9,7 @@ ghost use Rattle.exec_image.specs.Refusals.{tp_used};
 use crate::code::{code_word, next_code_word};
 use crate::parts::Part;
 use crate::refusals::FileRefusal;
+use elf_read::the_first_number_that_passes_is_found;
 use elf_spec::Segment;
 use rv_isa::{decode, names};
 
@@ -50,6 +51,7 @@ pub fn check_tp(file: &[u8], segments: &[Segment], code: &[Part]) -> Result<(), 
     requires { IsCode file.now segments.now code.now }
     ensures { Says result (tp_used file.now) }
 {
+    the_first_number_that_passes_is_found();
     match find_tp(file, segments, code) {
         Some(a) => Err(FileRefusal::TpUsed(a)),
         None => Ok(()),

@@ -5,8 +5,8 @@ use Rattle.machine_spec.specs.Memory.{Range, range_at, byte_of}
 use Rattle.machine_spec.proofs.AllFrom.{each_passes, all_pass}
 use Rattle.flat_spec.specs.Stores.{allows_store, bytes_from, can_store, put_byte, put_bytes}
 use Rattle.flat_spec.specs.Machine.{Machine, register}
-use Rattle.flat_machine.specs.declared.pause.Pause.{Pause}
-use Rattle.flat_machine.specs.declared.pause.Pause.TheVariants as pause
+use Rattle.machine_run.specs.declared.pause.Pause.{Pause}
+use Rattle.machine_run.specs.declared.pause.Pause.TheVariants as pause
 use Rattle.flat_machine.specs.Seen.{FlatSeen}
 use Rattle.flat_machine.specs.Steps.{buffer_of, IsInMemory}
 use Rattle.flat_machine.specs.Paused.{seen_of, written_of, IsPaused}

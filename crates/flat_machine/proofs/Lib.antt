@@ -1,10 +1,6 @@
--- Lemmas on buffers in memory, reads that wait, output on its way, and runs.
+-- Lemmas on buffers in memory, reads that wait, steps, and runs as runs of any machine.
 pub mod Buffers
 pub mod Waiting
 pub mod Stepping
-pub mod Passing
-pub mod Feeding
-pub mod Served
-pub mod TurnByTurn
-pub mod Finishing
-pub mod Drawing
+pub mod ByRules
+pub mod SameRuns

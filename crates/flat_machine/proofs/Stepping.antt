@@ -6,14 +6,16 @@ use Rattle.machine_spec.specs.declared.Ending.TheVariants as ending
 use Rattle.flat_spec.specs.Machine.{Machine}
 use Rattle.flat_spec.specs.Calls.{Turn}
 use Rattle.flat_spec.specs.Turns.{turn}
-use Rattle.flat_machine.specs.declared.Stepped.{Stepped}
-use Rattle.flat_machine.specs.declared.Stepped.TheVariants.{Went, Wrote, WantsInput, Exited, Illegal, Fault}
-use Rattle.flat_machine.specs.Asks.{Asks, Nothing, Input, Output, asks}
+use Rattle.machine_run.specs.declared.Stepped.{Stepped}
+use Rattle.machine_run.specs.declared.Stepped.TheVariants.{Went, Wrote, WantsInput, Exited, Illegal, Fault}
+use Rattle.machine_run.specs.Machines.{Asks, Nothing, Input, Output, Wait}
+use Rattle.machine_run.specs.Steps.{answer_to, paused_by}
+use Rattle.flat_machine.specs.Asks.{asks}
 use Rattle.flat_machine.specs.Seen.{FlatSeen, between}
-use Rattle.flat_machine.specs.Steps.{Called, StepsTo, Pauses, answer_to}
-use Rattle.flat_machine.proofs.Feeding.{wait_of}
+use Rattle.flat_machine.specs.Steps.{Called, StepsTo, Pauses}
+use Rattle.flat_machine.proofs.Waiting.{wait_of}
 use Rattle.flat_machine.proofs.Buffers.{buffer_long}
-use Rattle.flat_machine.specs.Paused.{seen_of, paused_by, IsPaused}
+use Rattle.flat_machine.specs.Paused.{seen_of, IsPaused}
 
 -- where the machine stands after a step
 pub step_paused : (s : Stepped) (m new : Machine) (t : Turn) → Called s [] m new t → IsPaused (paused_by s) new

@@ -15,12 +15,13 @@ use Rattle.flat_spec.specs.Stores.{can_store, fetched, put_bytes}
 use Rattle.flat_spec.specs.Machine.{Machine, register, faults}
 use Rattle.flat_spec.specs.Calls.{Turn, quiet, answers, calls, calls_by}
 use Rattle.flat_spec.specs.Turns.{turn, turn_of, runs_word, executes}
-use Rattle.flat_machine.specs.Asks.{Nothing, Input, Output, asks, asks_by, asks_instr, asks_word, asks_of}
-use Rattle.flat_machine.specs.Seen.{Wait, FlatSeen, fed_with}
-use Rattle.flat_machine.specs.declared.pause.Pause.{Pause}
-use Rattle.flat_machine.specs.declared.pause.Pause.TheVariants as pause
-use Rattle.flat_machine.specs.Paused.{waits_of, seen_of, IsPaused}
-use Rattle.flat_machine.specs.Steps.{IsWholeRead}
+use Rattle.machine_run.specs.Machines.{Nothing, Input, Output, Wait}
+use Rattle.machine_run.specs.Steps.{waits_of, IsWholeRead}
+use Rattle.flat_machine.specs.Asks.{asks, asks_by, asks_instr, asks_word, asks_of}
+use Rattle.flat_machine.specs.Seen.{FlatSeen, fed_with}
+use Rattle.machine_run.specs.declared.pause.Pause.{Pause}
+use Rattle.machine_run.specs.declared.pause.Pause.TheVariants as pause
+use Rattle.flat_machine.specs.Paused.{seen_of, IsPaused}
 
 -- what a read does that was fed these bytes
 abbrev pub read_turn : Machine → List ℕ → List ℕ → Turn
@@ -120,7 +121,7 @@ fed_turn m bytes rest h le whole =
     ∙ ap (λ x. read_turn m x (drop (register m 12) (bytes ++ rest))) parts.0
     ∙ ap (λ x. read_turn m bytes x) parts.1
 
-abbrev wait_of : ℕ → ℕ → Wait
+abbrev pub wait_of : ℕ → ℕ → Wait
 wait_of len fed = record { len = len; fed = fed }
 
 waits_are : (a b : Wait) (x y : FlatSeen) → x ≡ y → x.waits ≡ Some a → y.waits ≡ Some b → a ≡ b

@@ -8,12 +8,7 @@ use Rattle.machine_spec.specs.declared.Ending.TheVariants.{Running, Exit, Illega
 use Rattle.machine_spec.specs.Calls.{Call, Read, Write, Exits, Brk, Unknown, call_of}
 use Rattle.flat_spec.specs.Stores.{bytes_from, can_store, fetched}
 use Rattle.flat_spec.specs.Machine.{Machine, register}
-
--- nothing, at most so many bytes of the input, or that so many bytes are written
-pub data Asks : Type 0 where
-  Nothing : Asks
-  Input : (most : ℕ) → Asks
-  Output : (len : ℕ) → Asks
+use Rattle.machine_run.specs.Machines.{Asks, Nothing, Input, Output}
 
 -- a read from descriptor 0 whose buffer can be stored to wants input where a2 isn't 0;
 -- a write to descriptor 1 or 2 whose bytes are in memory writes, also where a2 is 0

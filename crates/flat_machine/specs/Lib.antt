@@ -3,6 +3,5 @@ pub mod Asks
 pub mod Seen
 pub mod Steps
 pub mod Paused
-pub mod Output
 pub mod Runs
-pub mod Serving
+pub mod Rules

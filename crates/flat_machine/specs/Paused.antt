@@ -2,19 +2,13 @@
 use Rattle.std.specs.Prelude.{◌≡◌, ℕ, ◌≤◌, List, [], Option, Some, None}
 use Rattle.machine_spec.specs.declared.Ending.TheVariants.{Running}
 use Rattle.flat_spec.specs.Machine.{Machine, register}
-use Rattle.flat_machine.specs.declared.Stepped.{Stepped}
-use Rattle.flat_machine.specs.declared.Stepped.TheVariants.{Went, Wrote, WantsInput, Exited, Illegal, Fault}
-use Rattle.flat_machine.specs.declared.pause.Pause.{Pause}
-use Rattle.flat_machine.specs.declared.pause.Pause.TheVariants.{Nothing, Output, Input}
-use Rattle.flat_machine.specs.Seen.{Wait, FlatSeen}
+use Rattle.machine_run.specs.declared.pause.Pause.{Pause}
+use Rattle.machine_run.specs.declared.pause.Pause.TheVariants.{Nothing, Output, Input}
+use Rattle.machine_run.specs.Steps.{waits_of}
+use Rattle.flat_machine.specs.Seen.{FlatSeen}
 use Rattle.flat_machine.specs.Steps.{buffer_of, IsInMemory, IsStorable}
 
 -- what is seen of a machine that stands so
-abbrev pub waits_of : Pause → Option Wait
-waits_of Nothing = None
-waits_of (Output len) = None
-waits_of (Input len fed) = Some (record { len = len; fed = fed })
-
 abbrev pub written_of : Pause → Machine → List ℕ
 written_of Nothing m = []
 written_of (Output len) m = buffer_of m len
@@ -29,12 +23,3 @@ abbrev pub IsPaused : Pause → Machine → Type 0
 IsPaused Nothing m = Unit {0}
 IsPaused (Output len) m = IsInMemory m len
 IsPaused (Input len fed) m = IsStorable m len × (fed ≤ len) × (register m 12 ≡ len) × (m.ending ≡ Running)
-
--- where a machine stands after a step
-abbrev pub paused_by : Stepped → Pause
-paused_by (Wrote len) = Output len
-paused_by (WantsInput len) = Input len 0
-paused_by Went = Nothing
-paused_by (Exited status) = Nothing
-paused_by (Illegal at) = Nothing
-paused_by (Fault kind at) = Nothing

@@ -4,10 +4,10 @@ use Rattle.machine_spec.specs.declared.Ending.{Ending}
 use Rattle.machine_spec.specs.declared.Ending.TheVariants.{Running, Exit, Illegal as IllegalAt, Fault as FaultAt}
 use Rattle.flat_spec.specs.Machine.{Machine, register}
 use Rattle.flat_spec.specs.Runs.{State, steps}
-use Rattle.halo_outside.specs.Seen.{SinkSeen, count_after, Rose, Appends, AppendsPrefix}
-use Rattle.flat_machine.specs.declared.RunEnd.{RunEnd}
-use Rattle.flat_machine.specs.declared.RunEnd.TheVariants.{Exited, Illegal, Fault, Steps, ReadFault, WriteFault}
-use Rattle.flat_machine.specs.Asks.{Output, asks, IsAtRead}
+use Rattle.machine_run.specs.declared.RunEnd.{RunEnd}
+use Rattle.machine_run.specs.declared.RunEnd.TheVariants.{Exited, Illegal, Fault, Steps, ReadFault, WriteFault}
+use Rattle.machine_run.specs.Machines.{Output}
+use Rattle.flat_machine.specs.Asks.{asks, IsAtRead}
 use Rattle.flat_machine.specs.Seen.{FlatSeen, fed_with}
 
 -- the state so many turns after a machine began with this input
@@ -67,16 +67,6 @@ Leaves Steps s now told = IsLeft s now told
 Leaves ReadFault s now told = IsCutOff s.machine s.input now told
 Leaves WriteFault s now told = IsLeft s now told
 
--- what was appended to the sink: all that was written, or a part where a write failed
-abbrev pub Writes : RunEnd → SinkSeen → SinkSeen → List ℕ → Type 0
-Writes (Exited status n) before now output = Appends before.told now.told output
-Writes (Illegal at n) before now output = Appends before.told now.told output
-Writes (Fault kind at n) before now output = Appends before.told now.told output
-Writes Steps before now output = Appends before.told now.told output
-Writes ReadFault before now output = Appends before.told now.told output
-    ⊎ (Rose before.faults now.faults × AppendsPrefix before.told now.told output)
-Writes WriteFault before now output = AppendsPrefix before.told now.told output
-
 -- a run of at most `bound` turns on an input: its answer, the machine before each turn that was taken, what it
 -- leaves, and what of its output was written
 pub record Ran (end : RunEnd) (bound : ℕ) (m : Machine) (input : List ℕ) (now : FlatSeen) (told : Option (List ℕ)) (IsWritten : List ℕ → Type 0) : Type 0 where
@@ -85,13 +75,6 @@ pub record Ran (end : RunEnd) (bound : ℕ) (m : Machine) (input : List ℕ) (no
   pub runs : (k : ℕ) → k < taken → IsRunning (run_from m input k)
   pub leaves : Leaves end (run_from m input taken) now told
   pub output : IsWritten (run_from m input taken).output
-
--- a source that had these bytes gave up some of the first of them, and counted them
-pub record Draws (had : List ℕ) (told : Option (List ℕ)) (before now : ℕ) : Type 0 where
-  pub rest : List ℕ
-  pub rest_is : told ≡ Some rest
-  pub fewer : length rest ≤ length had
-  pub counted : now ≡ count_after before (length had - length rest)
 
 -- what an answer says of the machine, whatever the input
 abbrev pub EndsAs : RunEnd → ℕ → FlatSeen → Type 0

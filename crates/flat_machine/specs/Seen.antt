@@ -6,17 +6,11 @@ use Rattle.machine_spec.specs.Start.{start_registers}
 use Rattle.flat_spec.specs.Stores.{put_bytes}
 use Rattle.flat_spec.specs.Machine.{Machine, register}
 use Rattle.flat_spec.specs.Calls.{answers}
-
--- a read that waits: the most bytes that it takes, and how many it was fed
-pub record Wait : Type 0 where
-  pub len : ℕ
-  pub fed : ℕ
+use Rattle.machine_run.specs.Machines.{Seen}
 
 -- the machine, whether it waits at a read, and the bytes that its last step wrote
-pub record FlatSeen : Type 0 where
-  pub machine : Machine
-  pub waits : Option Wait
-  pub written : List ℕ
+abbrev pub FlatSeen : Type 0
+FlatSeen = Seen Machine
 
 -- it doesn't wait, and its last step wrote these bytes
 abbrev pub between : Machine → List ℕ → FlatSeen

@@ -1,24 +1,15 @@
 -- What a step of the flat machine answers and does.
-use Rattle.std.specs.Prelude.{◌≡◌, ◌⊎◌, ℕ, List, [], length, true, Some, None, is_some, unwrap_or}
-use Rattle.machine_spec.specs.declared.Ending.{Ending}
-use Rattle.machine_spec.specs.declared.Ending.TheVariants.{Running, Exit, Illegal as IllegalAt, Fault as FaultAt}
+use Rattle.std.specs.Prelude.{◌≡◌, ℕ, List, [], length, true, Some, None, is_some, unwrap_or}
+use Rattle.machine_spec.specs.declared.Ending.TheVariants.{Running}
 use Rattle.flat_spec.specs.Stores.{bytes_from, can_store}
 use Rattle.flat_spec.specs.Machine.{Machine, register}
 use Rattle.flat_spec.specs.Calls.{Turn, quiet}
 use Rattle.flat_spec.specs.Turns.{turn}
-use Rattle.flat_machine.specs.declared.Stepped.{Stepped}
-use Rattle.flat_machine.specs.declared.Stepped.TheVariants.{Went, Wrote, WantsInput, Exited, Illegal, Fault}
-use Rattle.flat_machine.specs.Asks.{Asks, Nothing, Input, Output, asks}
+use Rattle.machine_run.specs.declared.Stepped.{Stepped}
+use Rattle.machine_run.specs.declared.Stepped.TheVariants.{Went, Wrote, WantsInput, Exited, Illegal, Fault}
+use Rattle.machine_run.specs.Machines.{Input}
+use Rattle.flat_machine.specs.Asks.{asks}
 use Rattle.flat_machine.specs.Seen.{FlatSeen, fed_with}
-
--- the answer of a step at which a machine asked for something and after which it has this ending
-abbrev pub answer_to : Asks → Ending → Stepped
-answer_to (Input most) ending = WantsInput most
-answer_to (Output len) ending = Wrote len
-answer_to Nothing Running = Went
-answer_to Nothing (Exit status) = Exited status
-answer_to Nothing (IllegalAt at) = Illegal at
-answer_to Nothing (FaultAt kind at) = Fault kind at
 
 -- a step is a turn, which leaves the input as it is
 abbrev pub IsTurn : List ℕ → Machine → FlatSeen → Type 0
@@ -47,10 +38,6 @@ Pauses Went new = (new.waits ≡ None) × (new.written ≡ [])
 Pauses (Exited status) new = (new.waits ≡ None) × (new.written ≡ [])
 Pauses (Illegal at) new = (new.waits ≡ None) × (new.written ≡ [])
 Pauses (Fault kind at) new = (new.waits ≡ None) × (new.written ≡ [])
-
--- these bytes are all that a read of at most so many takes, where the rest is left
-abbrev pub IsWholeRead : ℕ → List ℕ → List ℕ → Type 0
-IsWholeRead most bytes rest = (length bytes ≡ most) ⊎ (rest ≡ [])
 
 -- the bytes of a system call's buffer, at a1
 abbrev pub buffer_of : Machine → ℕ → List ℕ

@@ -1,12 +1,15 @@
 // One turn: an instruction (RISC-V unprivileged manual), or an ending.
 ghost use Rattle.std.specs.Prelude.{◌≡◌, ◌≢◌, ◌<◌, ℕ, List, IfSome, if◌then◌else◌};
 ghost use Rattle.rv_isa.specs.Encoded.{NamesRegisters};
-ghost use Rattle.flat_spec.specs.Turns.{acts, plus, turn, executes, runs_word};
+ghost use Rattle.rv_isa.specs.Addresses.{plus};
+ghost use Rattle.flat_spec.specs.Turns.{acts, turn, executes, runs_word};
 ghost use Rattle.flat_spec.specs.Machine.{register, jumps, passes};
 ghost use Rattle.rv_isa.specs.Compute.{is_held};
 ghost use Rattle.flat_spec.specs.Stores.{fetched};
-ghost use Rattle.flat_machine.specs.Asks.{asks, asks_instr, asks_word, Asks};
-ghost use Rattle.flat_machine.specs.Steps.{answer_to, Called};
+ghost use Rattle.flat_machine.specs.Asks.{asks, asks_instr, asks_word};
+ghost use Rattle.machine_run.specs.Machines.{Asks};
+ghost use Rattle.machine_run.specs.Steps.{answer_to};
+ghost use Rattle.flat_machine.specs.Steps.{Called};
 
 use crate::Stepped;
 use crate::hart::Hart;

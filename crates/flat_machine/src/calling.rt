@@ -5,7 +5,8 @@ ghost use Rattle.machine_spec.specs.Calls.{call_of, Call};
 ghost use Rattle.flat_spec.specs.Machine.{register, ends, faults};
 ghost use Rattle.flat_spec.specs.Calls.{answers, calls, calls_by};
 ghost use Rattle.flat_machine.specs.Asks.{asks_by};
-ghost use Rattle.flat_machine.specs.Steps.{answer_to, Called};
+ghost use Rattle.machine_run.specs.Steps.{answer_to};
+ghost use Rattle.flat_machine.specs.Steps.{Called};
 
 use crate::Stepped;
 use crate::hart::Hart;

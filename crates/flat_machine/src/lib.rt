@@ -1,62 +1,17 @@
-// The flat machine, which runs a file's bytes as given: its steps, and runs over a source and a sink.
+// The flat machine, which runs a file's bytes as given: its steps, and its runs over a source and a sink.
 #![tactic(auto)]
 
 mod acting;
+mod as_machine;
 mod calling;
 mod hart;
 mod machine;
-mod pause;
-mod pending;
 mod running;
-mod serving;
 
 pub use machine::{Flat, start};
+pub use machine_run::{RunEnd, Stepped};
 pub use machine_spec::FaultKind;
 pub use running::run_flat;
-
-/// What a step of the machine did.
-#[derive(Clone, Copy, Debug, PartialEq, Eq)]
-pub enum Stepped {
-    /// An instruction that asks nothing of the outside.
-    Went,
-    /// A system call wrote `len` bytes.
-    Wrote { len: u32 },
-    /// A system call wants at most `len` bytes of the input, and the machine waits for them.
-    WantsInput { len: u32 },
-    /// The machine ended with this status.
-    Exited(u8),
-    /// The machine ended at a word that is no instruction to be run, at this address.
-    Illegal { at: u32 },
-    /// The machine ended at an address fault of the instruction at this address.
-    Fault { kind: FaultKind, at: u32 },
-}
-
-/// How a run of the machine ends.
-#[derive(Clone, Copy, Debug, PartialEq, Eq)]
-pub enum RunEnd {
-    /// With this status, at the last of so many steps.
-    Exited {
-        status: u8,
-        steps: u32,
-    },
-    /// At a word that is no instruction to be run, after so many steps before.
-    Illegal {
-        at: u32,
-        steps: u32,
-    },
-    /// At an address fault, after so many steps before.
-    Fault {
-        kind: FaultKind,
-        at: u32,
-        steps: u32,
-    },
-    /// The machine still runs after all steps.
-    Steps,
-    /// A read of the input failed.
-    ReadFault,
-    /// A write of the output failed.
-    WriteFault,
-}
 
 #[cfg(test)]
 mod tests;

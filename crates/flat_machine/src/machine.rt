@@ -4,14 +4,16 @@ ghost use Rattle.elf_spec.specs.Records.{e_entry};
 ghost use Rattle.machine_spec.specs.Memory.{memory_of};
 ghost use Rattle.flat_spec.specs.Machine.{Machine, register, start as start_of};
 ghost use Rattle.flat_spec.specs.Turns.{turn};
-ghost use Rattle.flat_machine.specs.Asks.{asks, Asks, IsAtRead};
+ghost use Rattle.machine_run.specs.Machines.{Asks};
+ghost use Rattle.machine_run.specs.Steps.{answer_to, IsWholeRead};
+ghost use Rattle.flat_machine.specs.Asks.{asks, IsAtRead};
 ghost use Rattle.flat_machine.specs.Seen.{between, begun, fed_with, FedMore, Completed};
-ghost use Rattle.flat_machine.specs.Steps.{answer_to, Pauses, StepsTo, IsWholeRead};
+ghost use Rattle.flat_machine.specs.Steps.{Pauses, StepsTo};
 
 use crate::Stepped;
 use crate::hart::Hart;
-use crate::pause::{Pause, pause_of};
 use flat_mem::FlatMem;
+use machine_run::{Pause, pause_of};
 use machine_spec::Ending;
 use std::marker::Model;
 
@@ -107,7 +109,7 @@ impl Flat {
     }
 
     /// Copies the bytes that the last step wrote, from one on.
-    pub(crate) fn copy_output(&self, from: u32, into: &mut [u8])
+    pub(crate) fn copy_bytes(&self, from: u32, into: &mut [u8])
         requires { from + length into.old ≤ length self.now.written }
         ensures { into.new ≡ take (length into.old) (drop from self.now.written) }
     {
@@ -130,7 +132,7 @@ impl Flat {
     }
 
     /// How the machine ended, or that it runs.
-    pub(crate) fn ending(&self) -> Ending
+    pub(crate) fn how_it_ends(&self) -> Ending
         ensures { result ≡ self.now.machine.ending }
     {
         self.hart.ending()

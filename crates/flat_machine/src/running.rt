@@ -1,14 +1,12 @@
 // Runs of the flat machine over a source and a sink.
-ghost use Rattle.std.specs.Prelude.{◌≡◌, ◌^◌, ◌<◌, ◌≤◌, ℕ, List, [], Some, None};
+ghost use Rattle.std.specs.Prelude.{◌≡◌, ◌^◌, ◌<◌, ◌≤◌, ℕ, List, Some, None};
 ghost use Rattle.halo_outside.specs.Seen.{Rose, TellsAlike};
-ghost use Rattle.flat_machine.specs.Runs.{Draws, Ran, EndsAs, Writes};
-ghost use Rattle.flat_machine.specs.Serving.{Holds, Finishes};
+ghost use Rattle.machine_run.specs.Runs.{Draws, Writes};
+ghost use Rattle.flat_machine.specs.Runs.{Ran, EndsAs};
 
-use crate::RunEnd;
 use crate::machine::Flat;
-use crate::pending::Pending;
-use crate::serving::{Cut, serve};
 use halo_outside::{Sink, Source};
+use machine_run::{RunEnd, run};
 use machine_spec::Ending;
 
 /// Runs the machine for at most so many steps, with its input from `input` and its output to `out`.
@@ -43,81 +41,8 @@ pub fn run_flat<I: Source, O: Sink>(
     ensures out_tells { TellsAlike (O.seen out.old).told (O.seen out.new).told }
     ensures out_later { (O.seen out.old).faults ≤ (O.seen out.new).faults }
 {
-    let mut pending = Pending::new();
-    let end = run_turns(machine, steps, &mut pending, input, out);
-    finish(end, &mut pending, out)
-}
-
-/// Runs the machine, with what it wrote last left in the buffer.
-fn run_turns<I: Source, O: Sink>(
-    machine: &mut Flat,
-    steps: u32,
-    pending: &mut Pending,
-    input: &mut I,
-    out: &mut O,
-) -> RunEnd
-    requires runs { machine.old.machine.ending ≡ Ending.Running }
-    requires goes { machine.old.waits ≡ None }
-    requires empty { pending.old ≡ [] }
-    ensures run { (left : List ℕ) → (I.seen input.old).told ≡ Some left
-        → Ran result steps machine.old.machine left machine.new (I.seen input.new).told
-        (Holds result (O.seen out.old).told (O.seen out.new).told pending.new) }
-    ensures ends { EndsAs result steps machine.new }
-    ensures read_fault { result ≡ RunEnd.ReadFault
-        → Rose (I.seen input.old).faults (I.seen input.new).faults }
-    ensures write_fault { result ≡ RunEnd.WriteFault
-        → Rose (O.seen out.old).faults (O.seen out.new).faults }
-    ensures input_tells { TellsAlike (I.seen input.old).told (I.seen input.new).told }
-    ensures input_later { (I.seen input.old).faults ≤ (I.seen input.new).faults }
-    ensures more { (I.seen input.old).taken ≤ (I.seen input.new).taken }
-    ensures counted { (left : List ℕ) → (I.seen input.old).told ≡ Some left
-        → (I.seen input.old).taken < 2 ^ 64
-        → Draws left (I.seen input.new).told (I.seen input.old).taken (I.seen input.new).taken }
-    ensures out_tells { TellsAlike (O.seen out.old).told (O.seen out.new).told }
-    ensures out_later { (O.seen out.old).faults ≤ (O.seen out.new).faults }
-{
-    for taken in 0..steps {
-        match serve(machine, pending, input, out) {
-            Ok(()) => {}
-            Err(Cut::AtRead) => return RunEnd::ReadFault,
-            Err(Cut::AtWrite) => return RunEnd::WriteFault,
-        }
-        match machine.ending() {
-            Ending::Running => {}
-            Ending::Exit(status) => {
-                return RunEnd::Exited {
-                    status,
-                    steps: taken + 1,
-                };
-            }
-            Ending::Illegal(at) => return RunEnd::Illegal { at, steps: taken },
-            Ending::Fault { kind, at } => {
-                return RunEnd::Fault {
-                    kind,
-                    at,
-                    steps: taken,
-                };
-            }
-        }
-    }
-    RunEnd::Steps
-}
-
-/// Writes what is left in the buffer, but not after a failed write.
-fn finish<O: Sink>(end: RunEnd, pending: &mut Pending, out: &mut O) -> RunEnd
-    ensures ends { Finishes end result (O.seen out.old) (O.seen out.new) pending.old }
-    ensures tells { TellsAlike (O.seen out.old).told (O.seen out.new).told }
-    ensures later { (O.seen out.old).faults ≤ (O.seen out.new).faults }
-{
-    match end {
-        RunEnd::WriteFault => RunEnd::WriteFault,
-        RunEnd::ReadFault => {
-            let _ = pending.flush(out);
-            RunEnd::ReadFault
-        }
-        whole => match pending.flush(out) {
-            Ok(()) => whole,
-            Err(_) => RunEnd::WriteFault,
-        },
+    match run(machine, steps, input, out) {
+        Ok(end) => end,
+        Err(_) => unreachable!(),
     }
 }

@@ -12,7 +12,7 @@ ghost use Rattle.flat_mem.specs.Areas.{ranges, FillsFrom};
 use crate::area::Area;
 use crate::memory::FlatMem;
 use bitflags::Flags;
-use elf_read::{Elf, Segment, SegmentFlags};
+use elf_read::{Elf, Segment, SegmentFlags, readable_files_keep_their_facts};
 use std::alloc::{AllocError, Global};
 
 const PT_LOAD: u32 = 1;
@@ -130,6 +130,7 @@ pub fn load(alloc: Global, elf: &Elf, file: &[u8]) -> Result<FlatMem, AllocError
     requires readable { IsReadable file.now }
     ensures { IfOk result (λ memory. memory ≡ memory_of file.now) }
 {
+    readable_files_keep_their_facts();
     let segments = elf.segments.as_slice();
     let mut areas = Vec::new(alloc);
     let mut bytes = Vec::with_capacity(alloc, memory_size(segments) + stack_size() as usize)?;

@@ -15,9 +15,12 @@ pub record Machine : Type 0 where
   pub pc : ℕ
   pub ending : Ending
 
--- x0 reads 0, whatever was written to it
+-- what a register reads: x0 reads 0, whatever was written to it
+abbrev pub word_read : List ℕ → ℕ → ℕ
+word_read words r = if r == 0 then 0 else slice_index words r
+
 abbrev pub register : Machine → ℕ → ℕ
-register m r = if r == 0 then 0 else slice_index m.registers r
+register m r = word_read m.registers r
 
 -- goes on to the next instruction, with a word in a register
 abbrev pub gives : ℕ → ℕ → Machine → Machine

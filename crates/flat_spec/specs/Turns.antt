@@ -3,6 +3,7 @@ use Rattle.std.specs.Prelude.{ℕ, ◌+◌, ◌*◌, ◌/◌, ◌%◌, ◌^◌, 
 use Rattle.rv_isa.specs.declared.Instr.{Instr}
 use Rattle.rv_isa.specs.declared.Instr.TheVariants.{Lui, Auipc, Jal, Jalr, Branch, Load, Store, OpImm, Reg, Fence, Ecall, Ebreak}
 use Rattle.rv_isa.specs.Table.{decoded}
+use Rattle.rv_isa.specs.Addresses.{plus}
 use Rattle.rv_isa.specs.Compute.{computed, is_held}
 use Rattle.machine_spec.specs.declared.Ending.{Ending}
 use Rattle.machine_spec.specs.declared.Ending.TheVariants.{Running, Exit, Illegal, Fault}
@@ -10,10 +11,6 @@ use Rattle.machine_spec.specs.declared.FaultKind.TheVariants.{F6}
 use Rattle.flat_spec.specs.Stores.{loaded, stored, fetched}
 use Rattle.flat_spec.specs.Machine.{Machine, register, gives, passes, ends, faults, jumps, loads, stores}
 use Rattle.flat_spec.specs.Calls.{Turn, quiet, calls}
-
--- an address relative to another
-abbrev pub plus : ℕ → ℕ → ℕ
-plus a b = (a + b) % 2 ^ 32
 
 -- what an instruction other than a system call does, whose turn is `calls`; a branch is a jump that
 -- links x0

@@ -13,16 +13,17 @@ use Rattle.rv_isa.specs.Compute.{computed}
 use Rattle.rv_isa.specs.Split.{split_of}
 use Rattle.machine_spec.specs.Memory.{Range}
 use Rattle.flat_spec.specs.Machine.{Machine}
-use Rattle.flat_spec.specs.Turns.{plus}
+use Rattle.rv_isa.specs.Addresses.{plus}
 use Rattle.flat_spec.specs.Runs.{steps}
-use Rattle.frag_code.specs.Fragments.{Fragment, Skip, Set, Compute, Load, Store, Seq, If, While}
+use Rattle.frag_code.specs.Fragments.{Fragment, Skip, Set, Compute, Imm, Load, Store, Seq, If, While}
 use Rattle.frag_code.specs.Forms.{HasFields, most_words, is_source}
 use Rattle.frag_code.specs.Code.{instructions_of, while_code}
 use Rattle.frag_code.specs.Meaning.{View, Rights, read, with_register, with_word, tested, holds, is_allowed, turns, frag_run}
 use Rattle.frag_code.specs.Machines.{StandsAt, HasRights}
-use Rattle.frag_code.proofs.Steps.{state, more_steps, no_step, one_step}
+use Rattle.flat_spec.proofs.Runs.{more_steps, one_step}
+use Rattle.frag_code.proofs.Steps.{state, no_step}
 use Rattle.frag_code.proofs.OnWay.{OnWay, way_tested}
-use Rattle.frag_code.proofs.Moves.{Moves, lui_move, addi_move, compute_move, load_move, store_move, jump_move, taken_move, missed_move}
+use Rattle.frag_code.proofs.Moves.{Moves, lui_move, addi_move, compute_move, imm_move, load_move, store_move, jump_move, taken_move, missed_move}
 
 -- the front and the back of code
 pub stands_front : (memory : List Range) (at : ℕ) (ws vs : List ℕ) → StandsAt memory at (ws ++ vs) → StandsAt memory at ws
@@ -152,6 +153,14 @@ module _ (decodes : (i : Instr) → IsFormed i → decoded (encoded i) ≡ Some 
       subst (λ x. Gets g start to x s.spent m input output) same
       (gets_one g start input output (at + 4) to s (with_register rd (computed op (read s.registers rs1) (read s.registers rs2)) s) m (omega (arith, place)) refl
       (compute_move decodes g start given input output at op rd rs1 rs2 s m h stands.0 fields.0 fields.1 fields.2))
+
+  acts_imm : (op : Op) (rd rs1 imm : ℕ) → Acts g start input output (Imm op rd rs1 imm)
+  unfolding instructions_of frag_run
+  acts_imm op rd rs1 imm w at to s s' m fields size place stands run h =
+      let same : with_register rd (computed op (read s.registers rs1) (imm % 2 ^ 32)) s ≡ s' = cc in
+      subst (λ x. Gets g start to x s.spent m input output) same
+      (gets_one g start input output (at + 4) to s (with_register rd (computed op (read s.registers rs1) (imm % 2 ^ 32)) s) m (omega (arith, place)) refl
+      (imm_move decodes g start given input output at op rd rs1 imm s m h stands.0 fields.0 fields.1 fields.2))
 
   acts_load : (rd rs1 offset : ℕ) → Acts g start input output (Load rd rs1 offset)
   unfolding instructions_of frag_run
@@ -315,6 +324,7 @@ module _ (decodes : (i : Instr) → IsFormed i → decoded (encoded i) ≡ Some 
   acts Skip = acts_skip
   acts (Set rd value) = acts_set rd value
   acts (Compute op rd rs1 rs2) = acts_compute op rd rs1 rs2
+  acts (Imm op rd rs1 imm) = acts_imm op rd rs1 imm
   acts (Load rd rs1 offset) = acts_load rd rs1 offset
   acts (Store rs1 rs2 offset) = acts_store rs1 rs2 offset
   acts (Seq a b) = acts_seq a b (acts a) (acts b)

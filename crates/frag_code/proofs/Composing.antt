@@ -11,7 +11,8 @@ use Rattle.flat_spec.proofs.Memories.{same_writable}
 use Rattle.flat_spec.proofs.Pieces.{bytes_from_same, storable_same}
 use Rattle.frag_code.specs.Meaning.{View, Rights}
 use Rattle.frag_code.specs.Machines.{StandsAt, HasRights, IsWordKept, Arrives}
-use Rattle.frag_code.proofs.Steps.{state, more_steps}
+use Rattle.flat_spec.proofs.Runs.{more_steps}
+use Rattle.frag_code.proofs.Steps.{state}
 use Rattle.frag_code.proofs.OnWay.{code_stays}
 use Rattle.frag_code.proofs.Stores.{load_is, low_of_word, number_of_low}
 

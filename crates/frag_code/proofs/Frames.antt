@@ -6,8 +6,8 @@ use Rattle.std.proofs.lemmas.Option.{option_and_then_some}
 use Rattle.rv_isa.specs.declared.Op.{Op}
 use Rattle.rv_isa.specs.Compute.{computed}
 use Rattle.machine_spec.proofs.AllFrom.{and_first, and_second}
-use Rattle.flat_spec.specs.Turns.{plus}
-use Rattle.frag_code.specs.Fragments.{Fragment, Skip, Set, Compute, Load, Store, Seq, If, While}
+use Rattle.rv_isa.specs.Addresses.{plus}
+use Rattle.frag_code.specs.Fragments.{Fragment, Skip, Set, Compute, Imm, Load, Store, Seq, If, While}
 use Rattle.frag_code.specs.Frames.{assigns, has_stores, HasWords, HasMore}
 use Rattle.frag_code.specs.Meaning.{View, Rights, put, read, with_register, with_word, tested, holds, is_allowed, turns, frag_run}
 
@@ -24,6 +24,7 @@ abbrev pub Writes : (ℕ → Type 0) → Type 0 → Fragment → Type 0
 Writes P S Skip = Unit {0}
 Writes P S (Set rd value) = P rd
 Writes P S (Compute op rd rs1 rs2) = P rd
+Writes P S (Imm op rd rs1 imm) = P rd
 Writes P S (Load rd rs1 offset) = P rd
 Writes P S (Store rs1 rs2 offset) = S
 Writes P S (Seq first second) = Writes P S first × Writes P S second
@@ -37,6 +38,7 @@ pub record Kept (g : Rights) (P : ℕ → Type 0) (S : Type 0) (R : View → Vie
   pub test : (s : View) → R s (tested s)
   pub set : (rd v : ℕ) (s : View) → P rd → R s (with_register rd (v % 2 ^ 32) s)
   pub compute : (op : Op) (rd rs1 rs2 : ℕ) (s : View) → P rd → R s (with_register rd (computed op (read s.registers rs1) (read s.registers rs2)) s)
+  pub imm : (op : Op) (rd rs1 imm : ℕ) (s : View) → P rd → R s (with_register rd (computed op (read s.registers rs1) (imm % 2 ^ 32)) s)
   pub load : (rd a : ℕ) (s : View) → P rd → is_allowed g.reads a ≡ true → R s (with_register rd (s.memory a) s)
   pub store : (a v : ℕ) (s : View) → S → is_allowed g.writes a ≡ true → R s (with_word a (v % 2 ^ 32) s)
 
@@ -65,6 +67,9 @@ module _ (g : Rights) (P : ℕ → Type 0) (S : Type 0) (R : View → View → T
   run_keeps (Compute op rd rs1 rs2) h s t run =
       let same : with_register rd (computed op (read s.registers rs1) (read s.registers rs2)) s ≡ t = cc in
       subst (λ x. R s x) same (k.compute op rd rs1 rs2 s h)
+  run_keeps (Imm op rd rs1 imm) h s t run =
+      let same : with_register rd (computed op (read s.registers rs1) (imm % 2 ^ 32)) s ≡ t = cc in
+      subst (λ x. R s x) same (k.imm op rd rs1 imm s h)
   run_keeps (Load rd rs1 offset) h s t run = by (is_allowed g.reads (plus (read s.registers rs1) offset)) refl run
     where
       by : (v : Bool) → is_allowed g.reads (plus (read s.registers rs1) offset) ≡ v → cond v (Some (with_register rd (s.memory (plus (read s.registers rs1) offset)) s)) None ≡ Some t → R s t
@@ -108,6 +113,7 @@ module _ (g : Rights) (r : ℕ) where
     test = λ s. refl;
     set = λ rd v s other. other_stays rd (v % 2 ^ 32) s other;
     compute = λ op rd rs1 rs2 s other. other_stays rd (computed op (read s.registers rs1) (read s.registers rs2)) s other;
+    imm = λ op rd rs1 imm s other. other_stays rd (computed op (read s.registers rs1) (imm % 2 ^ 32)) s other;
     load = λ rd a s other may. other_stays rd (s.memory a) s other;
     store = λ a v s h may. refl;
   }
@@ -119,6 +125,7 @@ module _ (g : Rights) (r : ℕ) where
   not_assigned Skip h = tt
   not_assigned (Set rd value) h = differs rd h
   not_assigned (Compute op rd rs1 rs2) h = differs rd h
+  not_assigned (Imm op rd rs1 imm) h = differs rd h
   not_assigned (Load rd rs1 offset) h = differs rd h
   not_assigned (Store rs1 rs2 offset) h = tt
   not_assigned (Seq a b) h = (not_assigned a (neither_first (assigns a r) (assigns b r) h), not_assigned b (neither_second (assigns a r) (assigns b r) h))
@@ -133,6 +140,7 @@ every : (f : Fragment) → Writes (λ rd. Unit {0}) (Unit {0}) f
 every Skip = tt
 every (Set rd value) = tt
 every (Compute op rd rs1 rs2) = tt
+every (Imm op rd rs1 imm) = tt
 every (Load rd rs1 offset) = tt
 every (Store rs1 rs2 offset) = tt
 every (Seq a b) = (every a, every b)
@@ -148,6 +156,7 @@ module _ (g : Rights) (a : ℕ) (free : is_allowed g.writes a ≡ false) where
     test = λ s. refl;
     set = λ rd v s h. refl;
     compute = λ op rd rs1 rs2 s h. refl;
+    imm = λ op rd rs1 imm s h. refl;
     load = λ rd b s h may. refl;
     store = λ b v s h may. at b (v % 2 ^ 32) s (nat_eq a b) refl may;
   }
@@ -170,6 +179,7 @@ memory_kept g = record {
   test = λ s. refl;
   set = λ rd v s h. refl;
   compute = λ op rd rs1 rs2 s h. refl;
+  imm = λ op rd rs1 imm s h. refl;
   load = λ rd a s h may. refl;
   store = λ a v s h may. absurd h;
 }
@@ -178,6 +188,7 @@ no_stores : (f : Fragment) → has_stores f ≡ false → Writes (λ rd. Unit {0
 no_stores Skip h = tt
 no_stores (Set rd value) h = tt
 no_stores (Compute op rd rs1 rs2) h = tt
+no_stores (Imm op rd rs1 imm) h = tt
 no_stores (Load rd rs1 offset) h = tt
 no_stores (Store rs1 rs2 offset) h = let clash : true ≡ false = h in cc
 no_stores (Seq a b) h = (no_stores a (neither_first (has_stores a) (has_stores b) h), no_stores b (neither_second (has_stores a) (has_stores b) h))
@@ -195,6 +206,7 @@ cost_kept g = record {
   test = λ s. omega arith;
   set = λ rd v s h. omega arith;
   compute = λ op rd rs1 rs2 s h. omega arith;
+  imm = λ op rd rs1 imm s h. omega arith;
   load = λ rd a s h may. omega arith;
   store = λ a v s h may. omega arith;
 }
@@ -227,6 +239,9 @@ module _ (results : (op : Op) (a b : ℕ) → a < 2 ^ 32 → b < 2 ^ 32 → comp
     compute = λ op rd rs1 rs2 s p h.
         with_small rd (computed op (read s.registers rs1) (read s.registers rs2)) s
         (results op (read s.registers rs1) (read s.registers rs2) (read_small s.registers rs1 h.registers) (read_small s.registers rs2 h.registers)) h;
+    imm = λ op rd rs1 imm s p h.
+        with_small rd (computed op (read s.registers rs1) (imm % 2 ^ 32)) s
+        (results op (read s.registers rs1) (imm % 2 ^ 32) (read_small s.registers rs1 h.registers) (omega arith)) h;
     load = λ rd a s p may h. with_small rd (s.memory a) s (h.memory a (and_second (a % 4 == 0) (g.reads a) may)) h;
     store = λ a v s p may h. record { registers = h.registers; memory = λ k reads. put_small s.memory a (v % 2 ^ 32) k (omega arith) (h.memory k reads) };
   }
@@ -268,6 +283,7 @@ module _ (g more : Rights) (h : HasMore g more) (w most : ℕ) (few : w ≤ most
   run_grows Skip s t run = run
   run_grows (Set rd value) s t run = run
   run_grows (Compute op rd rs1 rs2) s t run = run
+  run_grows (Imm op rd rs1 imm) s t run = run
   run_grows (Load rd rs1 offset) s t run = by (is_allowed g.reads (plus (read s.registers rs1) offset)) refl run
     where
       by : (v : Bool) → is_allowed g.reads (plus (read s.registers rs1) offset) ≡ v

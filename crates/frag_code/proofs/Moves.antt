@@ -3,13 +3,13 @@ use Rattle.std.proofs.Common.{◌≡◌, ℕ, zero, suc, ◌+◌, ◌%◌, ◌^�
 use Rattle.std.specs.Prelude.{Some, nat_eq, ◌==◌, slice_set}
 use Rattle.std.proofs.lemmas.Bool.Decides.{nat_tests}
 use Rattle.rv_isa.specs.declared.Op.{Op}
-use Rattle.rv_isa.specs.declared.Op.TheVariants.{Add}
+use Rattle.rv_isa.specs.declared.Op.TheVariants.{Add, Sub, Sll, Slt, Sltu, Xor, Srl, Sra, Or, And, Mul, Mulh, Mulhsu, Mulhu, Div, Divu, Rem, Remu}
 use Rattle.rv_isa.specs.declared.Cond.{Cond}
 use Rattle.rv_isa.specs.declared.Width.TheVariants.{Word}
 use Rattle.rv_isa.specs.declared.Instr.{Instr}
 use Rattle.rv_isa.specs.declared.Instr.TheVariants as rv
 use Rattle.rv_isa.specs.Compute.{computed, is_held}
-use Rattle.rv_isa.specs.Encoded.{encoded, IsFormed, IsExtended}
+use Rattle.rv_isa.specs.Encoded.{encoded, IsFormed, IsExtended, IsOperand}
 use Rattle.rv_isa.specs.Split.{split_of}
 use Rattle.rv_isa.specs.Table.{decoded}
 use Rattle.machine_spec.proofs.AllFrom.{and_first, and_second}
@@ -18,7 +18,8 @@ use Rattle.flat_spec.specs.Stores.{loaded, stored}
 use Rattle.flat_spec.specs.Machine.{Machine, register}
 use Rattle.flat_spec.specs.Machine as flat
 use Rattle.flat_spec.specs.Calls.{quiet}
-use Rattle.flat_spec.specs.Turns.{executes, acts, plus}
+use Rattle.rv_isa.specs.Addresses.{plus}
+use Rattle.flat_spec.specs.Turns.{executes, acts}
 use Rattle.flat_spec.specs.Runs.{step}
 use Rattle.frag_code.specs.Forms.{is_target, is_source}
 use Rattle.frag_code.specs.Meaning.{View, Rights, put, read, with_register, with_word, holds, is_allowed}
@@ -90,6 +91,11 @@ compute_acts : (input : List ℕ) (m : Machine) (op : Op) (rd rs1 rs2 a b : ℕ)
 unfolding acts
 compute_acts input m op rd rs1 rs2 a b e f = rw (sym e, sym f) refl
 
+imm_acts : (input : List ℕ) (m : Machine) (op : Op) (rd rs1 imm a b : ℕ) → register m rs1 ≡ a → imm ≡ b
+    → executes input (Some (rv.OpImm op rd rs1 imm)) m ≡ quiet input (flat.gives rd (computed op a b) m)
+unfolding acts
+imm_acts input m op rd rs1 imm a b e f = rw (sym e, sym f) refl
+
 load_acts : (input : List ℕ) (m : Machine) (rd rs1 offset b v : ℕ) → register m rs1 ≡ b → loaded m.memory Word (plus b offset) ≡ Some v
     → executes input (Some (rv.Load Word rd rs1 offset)) m ≡ quiet input (flat.gives rd v m)
 unfolding acts
@@ -114,6 +120,27 @@ missed_acts : (input : List ℕ) (m : Machine) (c : Cond) (rs1 rs2 : ℕ) → is
     → executes input (Some (rv.Branch c rs1 rs2 8)) m ≡ quiet input (flat.passes m)
 unfolding acts
 missed_acts input m c rs1 rs2 held = rw held refl
+
+-- an immediate is a word
+operand_word : (op : Op) (imm : ℕ) → IsOperand op imm → imm ≡ imm % 2 ^ 32
+operand_word Add imm h = omega (arith, h.word)
+operand_word Sub imm h = absurd h
+operand_word Sll imm h = omega (arith, h)
+operand_word Slt imm h = omega (arith, h.word)
+operand_word Sltu imm h = omega (arith, h.word)
+operand_word Xor imm h = omega (arith, h.word)
+operand_word Srl imm h = omega (arith, h)
+operand_word Sra imm h = omega (arith, h)
+operand_word Or imm h = omega (arith, h.word)
+operand_word And imm h = omega (arith, h.word)
+operand_word Mul imm h = absurd h
+operand_word Mulh imm h = absurd h
+operand_word Mulhsu imm h = absurd h
+operand_word Mulhu imm h = absurd h
+operand_word Div imm h = absurd h
+operand_word Divu imm h = absurd h
+operand_word Rem imm h = absurd h
+operand_word Remu imm h = absurd h
 
 module _ (decodes : (i : Instr) → IsFormed i → decoded (encoded i) ≡ Some i) (g : Rights) (start : Machine) (given : HasRights start.memory g) (input output : List ℕ) where
   -- an instruction that gives a register
@@ -154,6 +181,14 @@ module _ (decodes : (i : Instr) → IsFormed i → decoded (encoded i) ≡ Some 
       gives_move at rd (computed op (read s.registers rs1) (read s.registers rs2)) (rv.Reg op rd rs1 rs2) s m h stands
       ((target_small rd target).1, source_small rs1 first, source_small rs2 second) target
       (compute_acts input m op rd rs1 rs2 (read s.registers rs1) (read s.registers rs2) (h.shows.registers rs1 (source_small rs1 first)) (h.shows.registers rs2 (source_small rs2 second)))
+
+  pub imm_move : (at : ℕ) (op : Op) (rd rs1 imm : ℕ) (s : View) (m : Machine) → OnWay g start at s m
+      → IsWordAt start.memory (at % 2 ^ 32) (encoded (rv.OpImm op rd rs1 imm)) → is_target rd ≡ true → is_source rs1 ≡ true → IsOperand op imm
+      → Moves g start (at + 4) (with_register rd (computed op (read s.registers rs1) (imm % 2 ^ 32)) s) m input output
+  imm_move at op rd rs1 imm s m h stands target source operand =
+      gives_move at rd (computed op (read s.registers rs1) (imm % 2 ^ 32)) (rv.OpImm op rd rs1 imm) s m h stands
+      ((target_small rd target).1, source_small rs1 source, operand) target
+      (imm_acts input m op rd rs1 imm (read s.registers rs1) (imm % 2 ^ 32) (h.shows.registers rs1 (source_small rs1 source)) (operand_word op imm operand))
 
   pub load_move : (at rd rs1 offset : ℕ) (s : View) (m : Machine) → OnWay g start at s m
       → IsWordAt start.memory (at % 2 ^ 32) (encoded (rv.Load Word rd rs1 offset)) → is_target rd ≡ true → is_source rs1 ≡ true → IsExtended 12 offset

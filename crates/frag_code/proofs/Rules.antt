@@ -6,8 +6,8 @@ use Rattle.std.proofs.lemmas.Bool.Decides.{nat_tests}
 use Rattle.rv_isa.specs.declared.Op.{Op}
 use Rattle.rv_isa.specs.declared.Cond.{Cond}
 use Rattle.rv_isa.specs.Compute.{computed, is_held}
-use Rattle.flat_spec.specs.Turns.{plus}
-use Rattle.frag_code.specs.Fragments.{Fragment, Skip, Set, Compute, Load, Store, Seq, If}
+use Rattle.rv_isa.specs.Addresses.{plus}
+use Rattle.frag_code.specs.Fragments.{Fragment, Skip, Set, Compute, Imm, Load, Store, Seq, If}
 use Rattle.frag_code.specs.Meaning.{View, Rights, put, read, is_allowed, frag_run}
 use Rattle.frag_code.specs.Ends.{Ends}
 
@@ -36,6 +36,12 @@ module _ (g : Rights) (w : ℕ) (Q : View → Type 0) (r m : ℕ → ℕ) (c : �
       → Q (view (put r rd v) m (c + 3)) → Ends (frag_run g (Compute op rd rs1 rs2) w (view r m c)) Q
   unfolding frag_run
   compute_ends op rd rs1 rs2 v e h =
+      record { state = view (put r rd v) m (c + 3); is = ap (λ x. Some (view (put r rd x) m (c + 3))) e; has = h }
+
+  pub imm_ends : (op : Op) (rd rs1 imm v : ℕ) → computed op (read r rs1) (imm % 2 ^ 32) ≡ v
+      → Q (view (put r rd v) m (c + 3)) → Ends (frag_run g (Imm op rd rs1 imm) w (view r m c)) Q
+  unfolding frag_run
+  imm_ends op rd rs1 imm v e h =
       record { state = view (put r rd v) m (c + 3); is = ap (λ x. Some (view (put r rd x) m (c + 3))) e; has = h }
 
   pub load_ends : (rd rs1 offset a v : ℕ) → plus (read r rs1) offset ≡ a → a % 4 ≡ 0 → g.reads a ≡ true → m a ≡ v
@@ -102,6 +108,12 @@ module _ (g : Rights) (w : ℕ) (Q : View → Type 0) (r m : ℕ → ℕ) (c : �
   unfolding frag_run
   compute_then op rd rs1 rs2 v e h =
       then_ends (Compute op rd rs1 rs2) (put r rd v) m (c + 3) (ap (λ x. Some (view (put r rd x) m (c + 3))) e) h
+
+  pub imm_then : (op : Op) (rd rs1 imm v : ℕ) → computed op (read r rs1) (imm % 2 ^ 32) ≡ v
+      → Ends (frag_run g rest w (view (put r rd v) m (c + 3))) Q → Ends (frag_run g (Seq (Imm op rd rs1 imm) rest) w (view r m c)) Q
+  unfolding frag_run
+  imm_then op rd rs1 imm v e h =
+      then_ends (Imm op rd rs1 imm) (put r rd v) m (c + 3) (ap (λ x. Some (view (put r rd x) m (c + 3))) e) h
 
   pub load_then : (rd rs1 offset a v : ℕ) → plus (read r rs1) offset ≡ a → a % 4 ≡ 0 → g.reads a ≡ true → m a ≡ v
       → Ends (frag_run g rest w (view (put r rd v) m (c + 3))) Q → Ends (frag_run g (Seq (Load rd rs1 offset) rest) w (view r m c)) Q

@@ -28,19 +28,9 @@ pub step_quiet : (input output : List ℕ) (m next : Machine) → turn input m �
 unfolding step
 step_quiet input output m next e = rw (e, append-nil output) refl
 
--- j more turns
-pub more_steps : (i j : ℕ) (s : State) → steps (i + j) s ≡ steps i (steps j s)
-unfolding steps
-more_steps zero j s = let e : 0 + j ≡ j = omega arith in rw e refl
-more_steps (suc i) j s = let e : suc i + j ≡ suc (i + j) = omega arith in rw e (ap step (more_steps i j s))
-
 pub no_step : (s : State) → steps 0 s ≡ s
 unfolding steps
 no_step s = refl
-
-pub one_step : (s : State) → steps 1 s ≡ step s
-unfolding steps
-one_step s = refl
 
 -- what is fetched stands at a multiple of 4
 pub fetched_aligned : (memory : List Range) (a w : ℕ) → fetched memory a ≡ Some w → a % 4 ≡ 0

@@ -7,7 +7,7 @@ use Rattle.rv_isa.specs.declared.Instr.{Instr}
 use Rattle.rv_isa.specs.declared.Instr.TheVariants as rv
 use Rattle.rv_isa.specs.Split.{split_of}
 use Rattle.rv_isa.specs.Encoded.{encoded}
-use Rattle.frag_code.specs.Fragments.{Fragment, Skip, Set, Compute, Load, Store, Seq, If, While}
+use Rattle.frag_code.specs.Fragments.{Fragment, Skip, Set, Compute, Imm, Load, Store, Seq, If, While}
 
 -- a branch over the jump to the other arm, that jump, the arm of the condition with a jump to the end
 -- behind it, and the other arm; distances count from the jump itself
@@ -24,6 +24,7 @@ unfoldable pub instructions_of : Fragment → List Instr
 instructions_of Skip = []
 instructions_of (Set rd value) = rv.Lui rd (split_of value).0 ∷ rv.OpImm Add rd rd (split_of value).1 ∷ []
 instructions_of (Compute op rd rs1 rs2) = rv.Reg op rd rs1 rs2 ∷ []
+instructions_of (Imm op rd rs1 imm) = rv.OpImm op rd rs1 imm ∷ []
 instructions_of (Load rd rs1 offset) = rv.Load Word rd rs1 offset ∷ []
 instructions_of (Store rs1 rs2 offset) = rv.Store Word rs1 rs2 offset ∷ []
 instructions_of (Seq first second) = instructions_of first ++ instructions_of second

@@ -9,6 +9,7 @@ pub data Fragment : Type 0 where
   Skip : Fragment
   Set : (rd value : ℕ) → Fragment
   Compute : (op : Op) (rd rs1 rs2 : ℕ) → Fragment
+  Imm : (op : Op) (rd rs1 imm : ℕ) → Fragment
   Load : (rd rs1 offset : ℕ) → Fragment
   Store : (rs1 rs2 offset : ℕ) → Fragment
   Seq : (first second : Fragment) → Fragment
@@ -20,6 +21,7 @@ abbrev pub plain : Frag → Fragment
 plain boxed.Skip = Skip
 plain (boxed.Set rd value) = Set rd value
 plain (boxed.Op op rd rs1 rs2) = Compute op rd rs1 rs2
+plain (boxed.Imm op rd rs1 imm) = Imm op rd rs1 imm
 plain (boxed.Load rd rs1 offset) = Load rd rs1 offset
 plain (boxed.Store rs1 rs2 offset) = Store rs1 rs2 offset
 plain (boxed.Seq' p first q second) = Seq (plain first) (plain second)

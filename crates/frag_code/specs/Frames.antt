@@ -1,6 +1,6 @@
 -- What a fragment's run may change, apart from what it computes.
 use Rattle.std.specs.Prelude.{◌≡◌, ℕ, ◌^◌, ◌<◌, ◌==◌, ◌||◌, Bool, true, false}
-use Rattle.frag_code.specs.Fragments.{Fragment, Skip, Set, Compute, Load, Store, Seq, If, While}
+use Rattle.frag_code.specs.Fragments.{Fragment, Skip, Set, Compute, Imm, Load, Store, Seq, If, While}
 use Rattle.frag_code.specs.Meaning.{View, Rights}
 
 -- the registers that a fragment writes
@@ -8,6 +8,7 @@ abbrev pub assigns : Fragment → ℕ → Bool
 assigns Skip r = false
 assigns (Set rd value) r = rd == r
 assigns (Compute op rd rs1 rs2) r = rd == r
+assigns (Imm op rd rs1 imm) r = rd == r
 assigns (Load rd rs1 offset) r = rd == r
 assigns (Store rs1 rs2 offset) r = false
 assigns (Seq first second) r = assigns first r || assigns second r
@@ -19,6 +20,7 @@ abbrev pub has_stores : Fragment → Bool
 has_stores Skip = false
 has_stores (Set rd value) = false
 has_stores (Compute op rd rs1 rs2) = false
+has_stores (Imm op rd rs1 imm) = false
 has_stores (Load rd rs1 offset) = false
 has_stores (Store rs1 rs2 offset) = true
 has_stores (Seq first second) = has_stores first || has_stores second

@@ -3,8 +3,8 @@
 use Rattle.std.specs.Prelude.{ℕ, zero, suc, ◌+◌, ◌%◌, ◌^◌, ◌==◌, ◌&&◌, Bool, Option, Some, None, option_and_then, if◌then◌else◌}
 use Rattle.rv_isa.specs.declared.Cond.{Cond}
 use Rattle.rv_isa.specs.Compute.{computed, is_held}
-use Rattle.flat_spec.specs.Turns.{plus}
-use Rattle.frag_code.specs.Fragments.{Fragment, Skip, Set, Compute, Load, Store, Seq, If, While}
+use Rattle.rv_isa.specs.Addresses.{plus}
+use Rattle.frag_code.specs.Fragments.{Fragment, Skip, Set, Compute, Imm, Load, Store, Seq, If, While}
 
 -- the registers by their numbers, the words of memory by their addresses, and the cost so far
 pub record View : Type 0 where
@@ -55,6 +55,7 @@ unfoldable pub frag_run : Rights → Fragment → ℕ → View → Option View
 frag_run g Skip w s = Some s
 frag_run g (Set rd value) w s = Some (with_register rd (value % 2 ^ 32) s)
 frag_run g (Compute op rd rs1 rs2) w s = Some (with_register rd (computed op (read s.registers rs1) (read s.registers rs2)) s)
+frag_run g (Imm op rd rs1 imm) w s = Some (with_register rd (computed op (read s.registers rs1) (imm % 2 ^ 32)) s)
 frag_run g (Load rd rs1 offset) w s =
     let a : ℕ = plus (read s.registers rs1) offset in
     if is_allowed g.reads a then Some (with_register rd (s.memory a) s) else None

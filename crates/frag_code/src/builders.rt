@@ -20,6 +20,13 @@ pub fn compute(op: Op, rd: u8, rs1: u8, rs2: u8) -> Frag
     Frag::Op { op, rd, rs1, rs2 }
 }
 
+/// rd becomes what the operation gives of rs1 and the immediate.
+pub fn immediate(op: Op, rd: u8, rs1: u8, imm: u32) -> Frag
+    ensures { plain result ≡ Fragment.Imm op rd rs1 imm }
+{
+    Frag::Imm { op, rd, rs1, imm }
+}
+
 /// rd becomes the word at rs1 plus offset.
 pub fn load(rd: u8, rs1: u8, offset: u32) -> Frag
     ensures { plain result ≡ Fragment.Load rd rs1 offset }

@@ -46,6 +46,15 @@ fn emit(code: &mut Vec<u32>, f: &Frag) -> Result<(), AllocError>
                 rs2: *rs2,
             },
         ),
+        Frag::Imm { op, rd, rs1, imm } => put(
+            code,
+            Instr::OpImm {
+                op: *op,
+                rd: *rd,
+                rs1: *rs1,
+                imm: *imm,
+            },
+        ),
         Frag::Load { rd, rs1, offset } => put(
             code,
             Instr::Load {

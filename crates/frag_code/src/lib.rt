@@ -9,7 +9,7 @@ mod laws;
 #[cfg(test)]
 mod tests;
 
-pub use builders::{chain, choice, compute, load, repeat, sequence, set, store};
+pub use builders::{chain, choice, compute, immediate, load, repeat, sequence, set, store};
 pub use compiling::compile;
 pub use forms::{is_formed, words_of};
 pub use laws::{
@@ -36,6 +36,14 @@ pub enum Frag {
         rd: u8,
         rs1: u8,
         rs2: u8,
+    },
+    /// rd becomes what the operation gives of rs1 and the immediate: from -2048 to 2047, as an offset,
+    /// or from 0 to 31 for a shift.
+    Imm {
+        op: Op,
+        rd: u8,
+        rs1: u8,
+        imm: u32,
     },
     /// rd becomes the word at rs1 plus offset.
     Load {

@@ -81,6 +81,49 @@ fn each_form_has_its_words(rt: HostRuntime) -> Result<(), Fail> {
     Ok(())
 }
 
+/// Operations of a register and an immediate.
+fn immediates(alloc: Global) -> Result<Frag, AllocError> {
+    let mut all = Vec::new(alloc);
+    all.push(immediate(Op::Add, 31, 0, 0xffff_ffff))?;
+    all.push(immediate(Op::Xor, 13, 5, 0xffff_ffff))?;
+    all.push(immediate(Op::And, 30, 13, 2047))?;
+    all.push(immediate(Op::Sll, 5, 6, 31))?;
+    all.push(immediate(Op::Sra, 7, 10, 4))?;
+    all.push(immediate(Op::Sltu, 28, 0, 0xffff_f800))?;
+    chain(alloc, all)
+}
+
+#[test]
+fn immediates_have_their_words(rt: HostRuntime) -> Result<(), Fail> {
+    let f = immediates(rt.alloc())?;
+    let (words, count) = compiled(rt.alloc(), &f)?;
+    let wanted = [
+        0xfff00f93, 0xfff2c693, 0x7ff6ff13, 0x01f31293, 0x40455393, 0x80003e13,
+    ];
+    assert_eq!(rt; count, 6);
+    assert_eq!(rt; words.as_slice(), &wanted[..]);
+    Ok(())
+}
+
+#[test]
+fn immediates_have_their_ranges(rt: HostRuntime) -> Result<(), Fail> {
+    for (op, imm, formed) in [
+        (Op::Add, 2047, true),
+        (Op::And, 2048, false),
+        (Op::Or, 0xffff_f800, true),
+        (Op::Slt, 0xffff_f7ff, false),
+        (Op::Srl, 31, true),
+        (Op::Sll, 32, false),
+        (Op::Sub, 1, false),
+        (Op::Mul, 1, false),
+    ] {
+        assert_eq!(rt; is_formed(&immediate(op, 5, 0, imm)), formed, "{imm:08x}");
+    }
+    assert!(rt; !is_formed(&immediate(Op::Add, 0, 5, 1)));
+    assert!(rt; !is_formed(&immediate(Op::Add, 5, 2, 1)));
+    Ok(())
+}
+
 #[test]
 fn registers_and_offsets_have_their_ranges(rt: HostRuntime) -> Result<(), Fail> {
     for (register, formed) in [

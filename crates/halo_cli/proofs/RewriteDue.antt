@@ -4,6 +4,10 @@ use Rattle.std.specs.Bool.{MatchBool}
 use Rattle.std.specs.Prelude.{IsSomeAnd}
 use Rattle.std.proofs.lemmas.Bool.Decides.{nat_tests}
 use Rattle.halo_outside.specs.Seen.{Contents, contents_of, FilesSeen, IsToldAt, IsTooLong, Lacks}
+use Rattle.text_fields.proofs.Fronts.{front_takes, front_again}
+use Rattle.text_fields.proofs.Numbers.{number_takes, number_again}
+use Rattle.text_fields.proofs.Hexadecimals.{hex_takes, hex_again}
+use Rattle.plan_core.proofs.LineLaws.{ReadsLines, reads_lines}
 use Rattle.plan_core.proofs.Unique.{one_bad, one_over, one_text, not_both, not_bad, not_over}
 use Rattle.rewriter.specs.declared.refusal.RewriteRefusal.{RewriteRefusal}
 use Rattle.rewriter.specs.declared.refusal.RewriteRefusal.TheVariants as refusal
@@ -15,17 +19,25 @@ use Rattle.halo_cli.specs.Reads.{plan_limit, file_limit, FileComes, IsNoFile}
 use Rattle.halo_cli.specs.Rewrite.{rewrite_ending, TextComes, OperandsCome, AreRead, IsNoPlan, RewriteComes, RewriteBrings, RewriteWrites, Makes}
 use Rattle.halo_cli.proofs.ReadsDue.{limit_once, within, file_once, no_file_comes, told_comes, IsDecided, decided_as, no_exit}
 
+-- a line is read exactly where it fits and is written
+lines : ReadsLines
+lines = reads_lines (record {
+  front = λ front bytes rest. (front_takes front bytes rest, λ is. rw is (front_again front rest));
+  number = λ end max n bytes rest low small. (number_takes end max n bytes rest small, λ is. rw (is.1) (number_again end max n rest low is.0 small));
+  hexadecimal = λ n bytes rest. (hex_takes bytes n rest, λ is. rw (is.1) (hex_again n rest is.0));
+})
+
 texts_once : (text file : List ℕ) (a b : Ending) → TextComes text file a → TextComes text file b → a ≡ b
-texts_once text file a b (inl (n, is, bad)) (inl (m, is', bad')) = let same : n ≡ m = one_bad text n m bad bad' in cc
-texts_once text file a b (inl (n, is, bad)) (inr (inl (m, is', over))) = absurd (not_both text n m bad over)
-texts_once text file a b (inl (n, is, bad)) (inr (inr (plan, is', spells))) = absurd (not_bad plan text n spells.0 spells.1 bad)
-texts_once text file a b (inr (inl (n, is, over))) (inl (m, is', bad)) = absurd (not_both text m n bad over)
-texts_once text file a b (inr (inl (n, is, over))) (inr (inl (m, is', over'))) = let same : n ≡ m = one_over text n m over over' in cc
-texts_once text file a b (inr (inl (n, is, over))) (inr (inr (plan, is', spells))) = absurd (not_over plan text n spells.0 spells.1 over)
-texts_once text file a b (inr (inr (plan, is, spells))) (inl (n, is', bad)) = absurd (not_bad plan text n spells.0 spells.1 bad)
-texts_once text file a b (inr (inr (plan, is, spells))) (inr (inl (n, is', over))) = absurd (not_over plan text n spells.0 spells.1 over)
+texts_once text file a b (inl (n, is, bad)) (inl (m, is', bad')) = let same : n ≡ m = one_bad lines text n m bad bad' in cc
+texts_once text file a b (inl (n, is, bad)) (inr (inl (m, is', over))) = absurd (not_both lines text n m bad over)
+texts_once text file a b (inl (n, is, bad)) (inr (inr (plan, is', spells))) = absurd (not_bad lines plan text n spells.0 spells.1 bad)
+texts_once text file a b (inr (inl (n, is, over))) (inl (m, is', bad)) = absurd (not_both lines text m n bad over)
+texts_once text file a b (inr (inl (n, is, over))) (inr (inl (m, is', over'))) = let same : n ≡ m = one_over lines text n m over over' in cc
+texts_once text file a b (inr (inl (n, is, over))) (inr (inr (plan, is', spells))) = absurd (not_over lines plan text n spells.0 spells.1 over)
+texts_once text file a b (inr (inr (plan, is, spells))) (inl (n, is', bad)) = absurd (not_bad lines plan text n spells.0 spells.1 bad)
+texts_once text file a b (inr (inr (plan, is, spells))) (inr (inl (n, is', over))) = absurd (not_over lines plan text n spells.0 spells.1 over)
 texts_once text file a b (inr (inr (plan, is, spells))) (inr (inr (plan', is', spells'))) =
-    let same : plan ≡ plan' = one_text plan plan' spells.0 spells'.0 (sym spells.1 ∙ spells'.1) in
+    let same : plan ≡ plan' = one_text lines plan plan' spells.0 spells'.0 (sym spells.1 ∙ spells'.1) in
     is ∙ (ap (λ p. rewrite_ending (rewrite_refusal file p)) same ∙ sym is')
 
 -- told contents bring `rewrite` to one ending

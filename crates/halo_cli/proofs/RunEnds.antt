@@ -7,10 +7,11 @@ use Rattle.machine_spec.specs.declared.Ending as machine_ending
 use Rattle.machine_spec.specs.declared.Ending.TheVariants as machine
 use Rattle.flat_spec.specs.Machine.{Machine, start}
 use Rattle.flat_spec.specs.Runs.{State, flat_run}
-use Rattle.flat_machine.specs.declared.RunEnd.{RunEnd}
-use Rattle.flat_machine.specs.declared.RunEnd.TheVariants as run_end
+use Rattle.machine_run.specs.declared.RunEnd.{RunEnd}
+use Rattle.machine_run.specs.declared.RunEnd.TheVariants as run_end
 use Rattle.flat_machine.specs.Seen.{FlatSeen, between}
-use Rattle.flat_machine.specs.Runs.{run_from, IsRunning, WroteLast, EndsAs, Writes, Leaves, Ran as RanTo, Answers}
+use Rattle.machine_run.specs.Runs.{Writes}
+use Rattle.flat_machine.specs.Runs.{run_from, IsRunning, WroteLast, EndsAs, Leaves, Ran as RanTo, Answers}
 use Rattle.endings.specs.declared.endings.Ending.TheVariants.{File, ReadFault, WriteFault}
 use Rattle.endings.specs.declared.endings.BadFile.TheVariants.{Refused}
 use Rattle.exec_image.specs.declared.refusals.FileRefusal.TheVariants.{Elf}

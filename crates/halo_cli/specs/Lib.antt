@@ -8,7 +8,6 @@ pub mod Rewrite
 pub mod Run
 pub mod Show
 pub mod RunEnds
-pub mod Headline
 pub mod Commands
 pub mod Ends
 pub mod Answers

@@ -1,7 +1,7 @@
 -- How the command ends after a run.
 use Rattle.std.specs.Prelude.{ℕ}
-use Rattle.flat_machine.specs.declared.RunEnd.{RunEnd}
-use Rattle.flat_machine.specs.declared.RunEnd.TheVariants as end
+use Rattle.machine_run.specs.declared.RunEnd.{RunEnd}
+use Rattle.machine_run.specs.declared.RunEnd.TheVariants as end
 use Rattle.endings.specs.declared.endings.Ending.{Ending}
 use Rattle.endings.specs.declared.endings.Ending.TheVariants.{ReadFault, WriteFault, Exited, StillRunning, Fault, Illegal}
 

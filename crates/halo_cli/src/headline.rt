@@ -8,7 +8,7 @@ ghost use Rattle.plan_core.specs.declared.types.Plan.{Plan};
 ghost use Rattle.rewriter.specs.Rewrites.{IsRewritten};
 ghost use Rattle.sym_spec.specs.SymRuns.{sym_run};
 ghost use Rattle.match_spec.specs.Keeps.{IsNoFault};
-ghost use Rattle.halo_cli.specs.Headline.{DoesTheSame};
+ghost use Rattle.match_spec.specs.Same.{HasDoneTheSame};
 ghost use Rattle.halo_cli.specs.Run.{RunComes};
 
 /// For every input and every n for which a file that was rewritten by a plan meets no address fault
@@ -17,9 +17,8 @@ ghost use Rattle.halo_cli.specs.Run.{RunComes};
 /// word.
 pub fn new_files_do_the_same()
     ensures { (file : List ℕ) (plan : Plan) (new input : List ℕ) (n : ℕ) → IsRewritten file plan new
-        → All (λ b. b < 256) file → All (λ b. b < 256) input
-        → IsNoFault (sym_run file plan input n).machine.ending
-        → DoesTheSame file plan new input n }
+        → All (λ b. b < 256) input → IsNoFault (sym_run file plan input n).machine.ending
+        → HasDoneTheSame file plan new input n }
 {}
 
 /// `run` refuses no new file, whatever its name and input, where none of the old file's section headers,

@@ -22,8 +22,7 @@ use std::alloc::Global;
 ///
 /// `rewrite PLAN FILE` writes the file, changed as the plan says, to `out`. It takes the files that
 /// `exec_image` accepts and the plans that fit them, but for code that isn't rewritten yet: heap
-/// functions, pair sites, and other instructions than the ten that `rewriter` names. The input isn't
-/// read.
+/// functions and pair sites. The input isn't read.
 ///
 /// `run [--steps N] FILE` runs the file, as it is, on the flat machine, with the program's input from
 /// `input` and its output to `out`. N is from 0 to 4294967295, and 100000000 where it isn't given. All

@@ -10,7 +10,7 @@ use Rattle.elf_spec.specs.Code.{code_place}
 use Rattle.elf_spec.specs.Heap.{heap_entries}
 use Rattle.elf_spec.specs.NewFile.{new_file, front, put_half, put_word, header_bytes}
 use Rattle.site_spec.specs.Sites.{call_at, site_at}
-use Rattle.site_spec.specs.Rewritten.{rewritten}
+use Rattle.new_file_spec.specs.Rewritten.{rewritten}
 use Rattle.machine_examples.proofs.Files.{p2, new_p2, p3, new_p3}
 use Rattle.machine_examples.proofs.Setup.{empty_plan, plan_p3}
 

@@ -1,3 +1,5 @@
 pub mod Stands
+pub mod Parts
 pub mod Matches
 pub mod Keeps
+pub mod Same

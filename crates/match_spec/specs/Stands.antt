@@ -1,5 +1,5 @@
 -- Which words of the flat machine stand for which values of the symbol machine.
-use Rattle.std.specs.Prelude.{◌≡◌, ℕ, ◌+◌, Option, Some, None, List}
+use Rattle.std.specs.Prelude.{◌≡◌, ℕ, ◌+◌, ◌%◌, ◌^◌, ◌<◌, List, [], Option, Some, None}
 use Rattle.plan_core.specs.declared.types.Plan.{Plan}
 use Rattle.site_spec.specs.Places.{text_at, stub_at}
 use Rattle.sym_spec.specs.declared.Value.{Value}
@@ -15,7 +15,33 @@ unfoldable pub back_of : List ℕ → Plan → ℕ → ℕ
 back_of file plan a =
     back_in (text_at file) (back_index file plan.sites a) a
 
-abbrev pub Stands : List ℕ → Plan → Value → ℕ → Type 0
-Stands file plan (Num v) w = v ≡ w
-Stands file plan (Ret a) w = back_of file plan a ≡ w
-Stands file plan Unset w = Unit {0}
+-- where in a run of the new file that stands of which the symbol machine has names: where calls come
+-- back to, by their return address in the source, and the start of each block
+pub record Places : Type 0 where
+  pub back : ℕ → ℕ
+  pub blocks : List ℕ
+
+-- the places of a file under a plan: there are no blocks yet
+abbrev pub places_of : List ℕ → Plan → Places
+places_of file plan = record { back = back_of file plan; blocks = [] }
+
+abbrev pub Stands : Places → Value → ℕ → Type 0
+Stands places (Num v) w = v ≡ w
+Stands places (Ret a) w = places.back a ≡ w
+Stands places Unset w = Unit {0}
+
+-- a return address is a word and a multiple of 4
+abbrev pub IsReturn : ℕ → Type 0
+IsReturn a = (a < 2 ^ 32) × (a % 4 ≡ 0)
+
+-- a value that a register or a word of memory can have
+abbrev pub IsValue : Value → Type 0
+IsValue (Num v) = Unit {0}
+IsValue (Ret a) = IsReturn a
+IsValue Unset = Unit {0}
+
+-- a number stands for a value, and is a word
+pub record Holds (places : Places) (v : Value) (w : ℕ) : Type 0 where
+  pub stands : Stands places v w
+  pub value : IsValue v
+  pub small : w < 2 ^ 32

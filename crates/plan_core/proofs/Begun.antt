@@ -16,7 +16,7 @@ use Rattle.plan_core.specs.Plan.{line_text, text_of, plan_text, SiteFits, RowFit
 use Rattle.plan_core.specs.Grammar.{is_site, is_row, Begins, Within, FirstBad, FirstOver, Refuses}
 use Rattle.plan_core.specs.Reading.{line_at}
 use Rattle.plan_core.specs.Steps.{blank_plan, moves, is_full, added, WentOn, StoppedAt, Stopped}
-use Rattle.plan_core.proofs.LineLaws.{line_takes, line_again}
+use Rattle.plan_core.proofs.LineLaws.{ReadsLines}
 use Rattle.plan_core.proofs.Counts.{count-append}
 use Rattle.plan_core.proofs.Stages.{so_far, Tidy, Adds, adds_at, run, run-append, no_plan_goes_on, whole_ends, ended_is_last, begins, begun_fits, back_fits, counts, few_lines}
 
@@ -76,9 +76,9 @@ too_many_of (Mask r) p ls full sites rows w = omega (arith, count-append is_row 
 too_many_of End p ls full sites rows w = cc
 
 -- one more line
-took : (text : List ℕ) (p : Plan) (stage : Stage) (rest : List ℕ) (number : ℕ) (next : Stage) (l : TextLine) (after : List ℕ) → Begun text p stage rest number → line_at rest ≡ Some (l, after) → moves stage l ≡ Some next → is_full l p ≡ false → Begun text (added l p) next after (number + 1)
-took text p stage rest number next l after begun found goes room =
-    let takes = line_takes rest l after found in
+took : ReadsLines → (text : List ℕ) (p : Plan) (stage : Stage) (rest : List ℕ) (number : ℕ) (next : Stage) (l : TextLine) (after : List ℕ) → Begun text p stage rest number → line_at rest ≡ Some (l, after) → moves stage l ≡ Some next → is_full l p ≡ false → Begun text (added l p) next after (number + 1)
+took reads text p stage rest number next l after begun found goes room =
+    let takes = (reads rest l after).0 found in
     let adds = MatchOption-at_some (Unit {0}) (Adds l stage p) next goes (adds_at stage l p begun.tidy) in
     let few = few_more l p room begun.few_sites begun.few_rows in
     let at : number + 1 ≡ length (so_far next (added l p)) + 1 = rw (adds.lines, length_push (so_far stage p) l, begun.count) refl in
@@ -93,14 +93,14 @@ took text p stage rest number next l after begun found goes room =
       bounded = omega (arith, at, few_lines next (added l p), few.0, few.1);
     }
 
-went_on_at : (o : Option (TextLine × List ℕ)) (text : List ℕ) (p : Plan) (stage : Stage) (rest : List ℕ) (number : ℕ) (next : Stage) (after : List ℕ) (new : Plan) → line_at rest ≡ o → Begun text p stage rest number → WentOn o stage p next after new → Begun text new next after (number + 1)
-went_on_at None text p stage rest number next after new e begun went = absurd went
-went_on_at (Some found) text p stage rest number next after new e begun went =
-    rw (went.2, went.3) (took text p stage rest number next found.0 found.1 begun e went.0 went.1)
+went_on_at : ReadsLines → (o : Option (TextLine × List ℕ)) (text : List ℕ) (p : Plan) (stage : Stage) (rest : List ℕ) (number : ℕ) (next : Stage) (after : List ℕ) (new : Plan) → line_at rest ≡ o → Begun text p stage rest number → WentOn o stage p next after new → Begun text new next after (number + 1)
+went_on_at reads None text p stage rest number next after new e begun went = absurd went
+went_on_at reads (Some found) text p stage rest number next after new e begun went =
+    rw (went.2, went.3) (took reads text p stage rest number next found.0 found.1 begun e went.0 went.1)
 
-pub went_on : (text : List ℕ) (p : Plan) (stage : Stage) (rest : List ℕ) (number : ℕ) (next : Stage) (after : List ℕ) (new : Plan) → Begun text p stage rest number → WentOn (line_at rest) stage p next after new → Begun text new next after (number + 1)
-went_on text p stage rest number next after new begun went =
-    went_on_at (line_at rest) text p stage rest number next after new refl begun went
+pub went_on : ReadsLines → (text : List ℕ) (p : Plan) (stage : Stage) (rest : List ℕ) (number : ℕ) (next : Stage) (after : List ℕ) (new : Plan) → Begun text p stage rest number → WentOn (line_at rest) stage p next after new → Begun text new next after (number + 1)
+went_on reads text p stage rest number next after new begun went =
+    went_on_at reads (line_at rest) text p stage rest number next after new refl begun went
 
 within_so_far : (text : List ℕ) (p : Plan) (stage : Stage) (rest : List ℕ) (number : ℕ) → Begun text p stage rest number → Within (so_far stage p)
 within_so_far text p stage rest number begun =
@@ -108,8 +108,8 @@ within_so_far text p stage rest number begun =
     (omega (arith, counted.0, begun.few_sites), omega (arith, counted.1, begun.few_rows))
 
 -- the rest goes on with no line that may come, and isn't a missing rest after a whole plan
-bad_here : (text : List ℕ) (p : Plan) (stage : Stage) (rest : List ℕ) (number : ℕ) → Begun text p stage rest number → ((l : TextLine) (more : List ℕ) → line_at rest ≡ Some (l, more) → moves stage l ≡ None) → (rest ≡ [] → stage ≡ Ended → ⊥) → FirstBad text number
-bad_here text p stage rest number begun blocked missing = record {
+bad_here : ReadsLines → (text : List ℕ) (p : Plan) (stage : Stage) (rest : List ℕ) (number : ℕ) → Begun text p stage rest number → ((l : TextLine) (more : List ℕ) → line_at rest ≡ Some (l, more) → moves stage l ≡ None) → (rest ≡ [] → stage ≡ Ended → ⊥) → FirstBad text number
+bad_here reads text p stage rest number begun blocked missing = record {
   lines = so_far stage p;
   rest = rest;
   front = begun.front;
@@ -118,14 +118,14 @@ bad_here text p stage rest number begun blocked missing = record {
   number = begun.count;
   no_next = λ l more is goes.
       let fit = back_fits (so_far stage p) (l ∷ []) (begun_fits (so_far stage p ++ (l ∷ [])) goes) in
-      let found : line_at rest ≡ Some (l, more) = rw is (line_again l more fit.0) in
+      let found : line_at rest ≡ Some (l, more) = (reads rest l more).1 (fit.0, is) in
       no_plan_goes_on (so_far stage p) l stage begun.ran (blocked l more found) goes;
   unfinished = λ empty whole. missing empty (whole_ends (so_far stage p) stage begun.ran whole);
 }
 
-over_here : (text : List ℕ) (p : Plan) (stage : Stage) (rest : List ℕ) (number : ℕ) (next : Stage) (l : TextLine) (after : List ℕ) → Begun text p stage rest number → line_at rest ≡ Some (l, after) → moves stage l ≡ Some next → is_full l p ≡ true → FirstOver text number
-over_here text p stage rest number next l after begun found goes full =
-    let takes = line_takes rest l after found in
+over_here : ReadsLines → (text : List ℕ) (p : Plan) (stage : Stage) (rest : List ℕ) (number : ℕ) (next : Stage) (l : TextLine) (after : List ℕ) → Begun text p stage rest number → line_at rest ≡ Some (l, after) → moves stage l ≡ Some next → is_full l p ≡ true → FirstOver text number
+over_here reads text p stage rest number next l after begun found goes full =
+    let takes = (reads rest l after).0 found in
     let adds = MatchOption-at_some (Unit {0}) (Adds l stage p) next goes (adds_at stage l p begun.tidy) in
     let counted = counts stage p begun.tidy in
     let P : List TextLine → Type 0 = Begins in
@@ -146,35 +146,35 @@ same_line stage k l more after o one other blocked =
     let joined : ◌≡◌ {A = Option (TextLine × List ℕ)} (Some (k, more)) (Some (l, after)) = cc in
     rw ((some_pair_parts k l more after joined).0) blocked
 
-refused_in : (o : Option Stage) (b : Bool) (text : List ℕ) (p : Plan) (stage : Stage) (rest : List ℕ) (number : ℕ) (l : TextLine) (after : List ℕ) (e : PlanRefusal) → moves stage l ≡ o → is_full l p ≡ b → Begun text p stage rest number → (stage ≡ Ended → ⊥) → line_at rest ≡ Some (l, after) → StoppedAt o b number e → Refuses text e
-refused_in None b text p stage rest number l after e goes full begun going found stopped =
+refused_in : ReadsLines → (o : Option Stage) (b : Bool) (text : List ℕ) (p : Plan) (stage : Stage) (rest : List ℕ) (number : ℕ) (l : TextLine) (after : List ℕ) (e : PlanRefusal) → moves stage l ≡ o → is_full l p ≡ b → Begun text p stage rest number → (stage ≡ Ended → ⊥) → line_at rest ≡ Some (l, after) → StoppedAt o b number e → Refuses text e
+refused_in reads None b text p stage rest number l after e goes full begun going found stopped =
     let P : PlanRefusal → Type 0 = Refuses text in
     let only : (k : TextLine) (more : List ℕ) → line_at rest ≡ Some (k, more) → moves stage k ≡ None =
     λ k more is. same_line stage k l more after (line_at rest) is found goes in
-    subst P (sym stopped) (bad_here text p stage rest number begun only (λ _ ended. going ended))
-refused_in (Some next) true text p stage rest number l after e goes full begun going found stopped =
+    subst P (sym stopped) (bad_here reads text p stage rest number begun only (λ _ ended. going ended))
+refused_in reads (Some next) true text p stage rest number l after e goes full begun going found stopped =
     let P : PlanRefusal → Type 0 = Refuses text in
-    subst P (sym stopped) (over_here text p stage rest number next l after begun found goes full)
-refused_in (Some next) false text p stage rest number l after e goes full begun going found stopped =
+    subst P (sym stopped) (over_here reads text p stage rest number next l after begun found goes full)
+refused_in reads (Some next) false text p stage rest number l after e goes full begun going found stopped =
     let P : PlanRefusal → Type 0 = Refuses text in
     subst P (sym stopped) tt
 
-refused_at : (o : Option (TextLine × List ℕ)) (text : List ℕ) (p : Plan) (stage : Stage) (rest : List ℕ) (number : ℕ) (e : PlanRefusal) → line_at rest ≡ o → Begun text p stage rest number → (stage ≡ Ended → ⊥) → Stopped o stage p number e → Refuses text e
-refused_at None text p stage rest number e found begun going stopped =
+refused_at : ReadsLines → (o : Option (TextLine × List ℕ)) (text : List ℕ) (p : Plan) (stage : Stage) (rest : List ℕ) (number : ℕ) (e : PlanRefusal) → line_at rest ≡ o → Begun text p stage rest number → (stage ≡ Ended → ⊥) → Stopped o stage p number e → Refuses text e
+refused_at reads None text p stage rest number e found begun going stopped =
     let P : PlanRefusal → Type 0 = Refuses text in
     let only : (k : TextLine) (more : List ℕ) → line_at rest ≡ Some (k, more) → moves stage k ≡ None = λ k more is. absurd cc in
-    subst P (sym stopped) (bad_here text p stage rest number begun only (λ _ ended. going ended))
-refused_at (Some found) text p stage rest number e is begun going stopped =
-    refused_in (moves stage found.0) (is_full found.0 p) text p stage rest number found.0 found.1 e refl refl begun going is stopped
+    subst P (sym stopped) (bad_here reads text p stage rest number begun only (λ _ ended. going ended))
+refused_at reads (Some found) text p stage rest number e is begun going stopped =
+    refused_in reads (moves stage found.0) (is_full found.0 p) text p stage rest number found.0 found.1 e refl refl begun going is stopped
 
-pub refused : (text : List ℕ) (p : Plan) (stage : Stage) (rest : List ℕ) (number : ℕ) (e : PlanRefusal) → Begun text p stage rest number → (stage ≡ Ended → ⊥) → Stopped (line_at rest) stage p number e → Refuses text e
-refused text p stage rest number e begun going stopped =
-    refused_at (line_at rest) text p stage rest number e refl begun going stopped
+pub refused : ReadsLines → (text : List ℕ) (p : Plan) (stage : Stage) (rest : List ℕ) (number : ℕ) (e : PlanRefusal) → Begun text p stage rest number → (stage ≡ Ended → ⊥) → Stopped (line_at rest) stage p number e → Refuses text e
+refused reads text p stage rest number e begun going stopped =
+    refused_at reads (line_at rest) text p stage rest number e refl begun going stopped
 
 -- something stands behind the last line
-pub trailing : (text : List ℕ) (p : Plan) (stage : Stage) (rest : List ℕ) (number : ℕ) → Begun text p stage rest number → stage ≡ Ended → (rest ≡ [] → ⊥) → FirstBad text number
-trailing text p stage rest number begun ended some =
-    bad_here text p stage rest number begun (λ l more is. rw ended (ended_is_last l)) (λ empty _. some empty)
+pub trailing : ReadsLines → (text : List ℕ) (p : Plan) (stage : Stage) (rest : List ℕ) (number : ℕ) → Begun text p stage rest number → stage ≡ Ended → (rest ≡ [] → ⊥) → FirstBad text number
+trailing reads text p stage rest number begun ended some =
+    bad_here reads text p stage rest number begun (λ l more is. rw ended (ended_is_last l)) (λ empty _. some empty)
 
 -- the whole text was read
 pub read_whole : (text : List ℕ) (p : Plan) (stage : Stage) (rest : List ℕ) (number : ℕ) → Begun text p stage rest number → stage ≡ Ended → rest ≡ [] → IsPlan p × (text ≡ plan_text p)

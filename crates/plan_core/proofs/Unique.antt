@@ -13,7 +13,7 @@ use Rattle.plan_core.specs.declared.refusals.PlanRefusal.{PlanRefusal}
 use Rattle.plan_core.specs.declared.refusals.PlanRefusal.TheVariants.{Line, TooMany, Memory}
 use Rattle.plan_core.specs.Plan.{line_text, text_of, lines_of, plan_text, IsPlan}
 use Rattle.plan_core.specs.Grammar.{is_site, is_row, Begins, Within, FirstBad, FirstOver, Refuses}
-use Rattle.plan_core.proofs.LineLaws.{one_line, line_some}
+use Rattle.plan_core.proofs.LineLaws.{ReadsLines, one_line, line_some}
 use Rattle.plan_core.proofs.Counts.{count-append, sites_in_sites, rows_in_sites, sites_in_rows, rows_in_rows, front_within}
 use Rattle.plan_core.proofs.Stages.{LinesFit, begun_fits, plan_fits}
 
@@ -27,15 +27,15 @@ longer_by : (l : TextLine) (a b : List TextLine) (m : TextLine) (x y : List ℕ)
 longer_by l a b m x y same longer = record { more = longer.more; lines = cc (same, longer.lines); texts = longer.texts }
 
 -- of two lists of lines at one place, one goes on after the other
-compare : (a b : List TextLine) (x y : List ℕ) → LinesFit a → LinesFit b → text_of a ++ x ≡ text_of b ++ y → Longer a b x y ⊎ Longer b a y x
-compare [] b x y a_fit b_fit same = inl (record { more = b; lines = refl; texts = same })
-compare (l ∷ a) [] x y a_fit b_fit same = inr (record { more = l ∷ a; lines = refl; texts = sym same })
-compare (l ∷ a) (m ∷ b) x y a_fit b_fit same =
+compare : ReadsLines → (a b : List TextLine) (x y : List ℕ) → LinesFit a → LinesFit b → text_of a ++ x ≡ text_of b ++ y → Longer a b x y ⊎ Longer b a y x
+compare reads [] b x y a_fit b_fit same = inl (record { more = b; lines = refl; texts = same })
+compare reads (l ∷ a) [] x y a_fit b_fit same = inr (record { more = l ∷ a; lines = refl; texts = sym same })
+compare reads (l ∷ a) (m ∷ b) x y a_fit b_fit same =
     let left = append_assoc (line_text l) (text_of a) x in
     let right = append_assoc (line_text m) (text_of b) y in
     let apart : line_text l ++ (text_of a ++ x) ≡ line_text m ++ (text_of b ++ y) = cc in
-    let one = one_line l m (text_of a ++ x) (text_of b ++ y) a_fit.0 b_fit.0 apart in
-    elim (compare a b x y a_fit.1 b_fit.1 one.1) [ inl longer ↦ inl (longer_by l a b m x y one.0 longer) | inr shorter ↦ inr (longer_by m b a l y x (sym one.0) shorter) ]
+    let one = one_line reads l m (text_of a ++ x) (text_of b ++ y) a_fit.0 b_fit.0 apart in
+    elim (compare reads a b x y a_fit.1 b_fit.1 one.1) [ inl longer ↦ inl (longer_by l a b m x y one.0 longer) | inr shorter ↦ inr (longer_by m b a l y x (sym one.0) shorter) ]
 
 begins_front : (xs ys : List TextLine) → Begins (xs ++ ys) → Begins xs
 begins_front xs ys (p, more, fits, is) = (p, ys ++ more, fits, rw (is, append_assoc) refl)
@@ -63,21 +63,21 @@ over_front text n o =
     rw (parts, single, append_assoc) o.front
 
 -- a text has one first bad line
-pub one_bad : (text : List ℕ) (n m : ℕ) → FirstBad text n → FirstBad text m → n ≡ m
-one_bad text n m one other =
+pub one_bad : ReadsLines → (text : List ℕ) (n m : ℕ) → FirstBad text n → FirstBad text m → n ≡ m
+one_bad reads text n m one other =
     let same : text_of one.lines ++ one.rest ≡ text_of other.lines ++ other.rest = cc (one.front, other.front) in
-    elim (compare one.lines other.lines one.rest other.rest (begun_fits one.lines one.admitted) (begun_fits other.lines other.admitted) same) [
+    elim (compare reads one.lines other.lines one.rest other.rest (begun_fits one.lines one.admitted) (begun_fits other.lines other.admitted) same) [
       | inl longer ↦ cc (no_longer text n one other.lines other.rest other.admitted longer, one.number, other.number)
       | inr longer ↦ cc (no_longer text m other one.lines one.rest one.admitted longer, one.number, other.number)
     ]
 
 -- a text with a bad line first has none that is one too many
-pub not_both : (text : List ℕ) (n m : ℕ) → FirstBad text n → FirstOver text m → ⊥
-not_both text n m bad over =
+pub not_both : ReadsLines → (text : List ℕ) (n m : ℕ) → FirstBad text n → FirstOver text m → ⊥
+not_both reads text n m bad over =
     let b : List TextLine = over.lines ++ (over.over ∷ []) in
     let same : text_of bad.lines ++ bad.rest ≡ text_of b ++ over.rest = cc (bad.front, over_front text m over) in
     let P : List TextLine → Type 0 = Within in
-    elim (compare bad.lines b bad.rest over.rest (begun_fits bad.lines bad.admitted) (begun_fits b over.admitted) same) [
+    elim (compare reads bad.lines b bad.rest over.rest (begun_fits bad.lines bad.admitted) (begun_fits b over.admitted) same) [
       | inl longer ↦ over.too_many (subst P (sym (no_longer text n bad b over.rest over.admitted longer)) bad.within)
       | inr shorter ↦ over.too_many (front_within b shorter.more (subst P shorter.lines bad.within))
     ]
@@ -105,12 +105,12 @@ over_by text n m one other (l ∷ more) same =
     absurd (one.too_many (front_within (one.lines ++ (one.over ∷ [])) zs (subst P is other.within)))
 
 -- a text has one line that is the first too many
-pub one_over : (text : List ℕ) (n m : ℕ) → FirstOver text n → FirstOver text m → n ≡ m
-one_over text n m one other =
+pub one_over : ReadsLines → (text : List ℕ) (n m : ℕ) → FirstOver text n → FirstOver text m → n ≡ m
+one_over reads text n m one other =
     let a : List TextLine = one.lines ++ (one.over ∷ []) in
     let b : List TextLine = other.lines ++ (other.over ∷ []) in
     let same : text_of a ++ one.rest ≡ text_of b ++ other.rest = cc (over_front text n one, over_front text m other) in
-    elim (compare a b one.rest other.rest (begun_fits a one.admitted) (begun_fits b other.admitted) same) [
+    elim (compare reads a b one.rest other.rest (begun_fits a one.admitted) (begun_fits b other.admitted) same) [
       | inl longer ↦ over_by text n m one other longer.more longer.lines
       | inr longer ↦ sym (over_by text m n other one longer.more longer.lines)
     ]
@@ -138,10 +138,10 @@ whole_text : (p : Plan) (text : List ℕ) → text ≡ plan_text p → text ≡ 
 whole_text p text same = rw (append-nil (plan_text p)) same
 
 -- a plan's text has no bad line
-pub not_bad : (p : Plan) (text : List ℕ) (n : ℕ) → IsPlan p → text ≡ plan_text p → FirstBad text n → ⊥
-not_bad p text n is text_is bad =
+pub not_bad : ReadsLines → (p : Plan) (text : List ℕ) (n : ℕ) → IsPlan p → text ≡ plan_text p → FirstBad text n → ⊥
+not_bad reads p text n is text_is bad =
     let same : text_of bad.lines ++ bad.rest ≡ text_of (lines_of p) ++ [] = cc (bad.front, whole_text p text text_is) in
-    elim (compare bad.lines (lines_of p) bad.rest [] (begun_fits bad.lines bad.admitted) (plan_fits p is.fits) same) [
+    elim (compare reads bad.lines (lines_of p) bad.rest [] (begun_fits bad.lines bad.admitted) (plan_fits p is.fits) same) [
       | inl longer ↦
           (let all : lines_of p ≡ bad.lines = no_longer text n bad (lines_of p) [] (whole_begins p is) longer in
           let none : longer.more ≡ [] = ends_at bad.lines bad.rest longer.more [] bad.no_next (let P : List TextLine → Type 0 = Begins in subst P longer.lines (whole_begins p is)) longer.texts in
@@ -154,12 +154,12 @@ not_bad p text n is text_is bad =
     ]
 
 -- a plan's text has no line too many
-pub not_over : (p : Plan) (text : List ℕ) (n : ℕ) → IsPlan p → text ≡ plan_text p → FirstOver text n → ⊥
-not_over p text n is text_is over =
+pub not_over : ReadsLines → (p : Plan) (text : List ℕ) (n : ℕ) → IsPlan p → text ≡ plan_text p → FirstOver text n → ⊥
+not_over reads p text n is text_is over =
     let b : List TextLine = over.lines ++ (over.over ∷ []) in
     let same : text_of b ++ over.rest ≡ text_of (lines_of p) ++ [] = cc (over_front text n over, whole_text p text text_is) in
     let P : List TextLine → Type 0 = Within in
-    elim (compare b (lines_of p) over.rest [] (begun_fits b over.admitted) (plan_fits p is.fits) same) [
+    elim (compare reads b (lines_of p) over.rest [] (begun_fits b over.admitted) (plan_fits p is.fits) same) [
       | inl longer ↦ over.too_many (front_within b longer.more (subst P longer.lines (whole_within p is)))
       | inr shorter ↦
           (let none = none_left shorter.more over.rest shorter.texts in
@@ -200,10 +200,10 @@ one_plan p q same =
     ∙ ap (λ (a : Area). record q { area = a }) area
 
 -- plans that have one text are one plan
-pub one_text : (p q : Plan) → IsPlan p → IsPlan q → plan_text p ≡ plan_text q → p ≡ q
-one_text p q p_is q_is same =
+pub one_text : ReadsLines → (p q : Plan) → IsPlan p → IsPlan q → plan_text p ≡ plan_text q → p ≡ q
+one_text reads p q p_is q_is same =
     let ends : text_of (lines_of p) ++ [] ≡ text_of (lines_of q) ++ [] = ap (λ t. t ++ []) same in
-    elim (compare (lines_of p) (lines_of q) [] [] (plan_fits p p_is.fits) (plan_fits q q_is.fits) ends) [
+    elim (compare reads (lines_of p) (lines_of q) [] [] (plan_fits p p_is.fits) (plan_fits q q_is.fits) ends) [
       | inl longer ↦
           (let none = none_left longer.more [] longer.texts in
           one_plan p q (rw (longer.lines, none.0) (sym (append-nil (lines_of p)))))
@@ -213,22 +213,22 @@ one_text p q p_is q_is same =
     ]
 
 -- the text of a plan is read as that plan, if memory suffices
-pub only_from : (r : Result Plan PlanRefusal) (text : List ℕ) (p : Plan) → IfOk r (λ q. IsPlan q × (text ≡ plan_text q)) → IfErr r (Refuses text) → IsPlan p → text ≡ plan_text p → MatchResult r (λ q. q ≡ p) (λ e. e ≡ Memory)
-only_from (Ok q) text p found refused is text_is = one_text q p found.0 is (cc (found.1, text_is))
-only_from (Err (Line n)) text p found refused is text_is = absurd (not_bad p text n is text_is refused)
-only_from (Err (TooMany n)) text p found refused is text_is = absurd (not_over p text n is text_is refused)
-only_from (Err Memory) text p found refused is text_is = refl
+pub only_from : ReadsLines → (r : Result Plan PlanRefusal) (text : List ℕ) (p : Plan) → IfOk r (λ q. IsPlan q × (text ≡ plan_text q)) → IfErr r (Refuses text) → IsPlan p → text ≡ plan_text p → MatchResult r (λ q. q ≡ p) (λ e. e ≡ Memory)
+only_from reads (Ok q) text p found refused is text_is = one_text reads q p found.0 is (cc (found.1, text_is))
+only_from reads (Err (Line n)) text p found refused is text_is = absurd (not_bad reads p text n is text_is refused)
+only_from reads (Err (TooMany n)) text p found refused is text_is = absurd (not_over reads p text n is text_is refused)
+only_from reads (Err Memory) text p found refused is text_is = refl
 
 -- the first bad line is the answer, if memory suffices
-pub line_due : (r : Result Plan PlanRefusal) (text : List ℕ) (n : ℕ) → IfOk r (λ q. IsPlan q × (text ≡ plan_text q)) → IfErr r (Refuses text) → FirstBad text n → MatchResult r (λ _. ⊥) (λ e. (e ≡ Line n) ⊎ (e ≡ Memory))
-line_due (Ok q) text n found refused bad = not_bad q text n found.0 found.1 bad
-line_due (Err (Line m)) text n found refused bad = inl (ap (λ (k : ℕ). Line k) (one_bad text m n refused bad))
-line_due (Err (TooMany m)) text n found refused bad = absurd (not_both text n m bad refused)
-line_due (Err Memory) text n found refused bad = inr refl
+pub line_due : ReadsLines → (r : Result Plan PlanRefusal) (text : List ℕ) (n : ℕ) → IfOk r (λ q. IsPlan q × (text ≡ plan_text q)) → IfErr r (Refuses text) → FirstBad text n → MatchResult r (λ _. ⊥) (λ e. (e ≡ Line n) ⊎ (e ≡ Memory))
+line_due reads (Ok q) text n found refused bad = not_bad reads q text n found.0 found.1 bad
+line_due reads (Err (Line m)) text n found refused bad = inl (ap (λ (k : ℕ). Line k) (one_bad reads text m n refused bad))
+line_due reads (Err (TooMany m)) text n found refused bad = absurd (not_both reads text n m bad refused)
+line_due reads (Err Memory) text n found refused bad = inr refl
 
 -- the first line too many is the answer, if memory suffices
-pub over_due : (r : Result Plan PlanRefusal) (text : List ℕ) (n : ℕ) → IfOk r (λ q. IsPlan q × (text ≡ plan_text q)) → IfErr r (Refuses text) → FirstOver text n → MatchResult r (λ _. ⊥) (λ e. (e ≡ TooMany n) ⊎ (e ≡ Memory))
-over_due (Ok q) text n found refused over = not_over q text n found.0 found.1 over
-over_due (Err (Line m)) text n found refused over = absurd (not_both text m n refused over)
-over_due (Err (TooMany m)) text n found refused over = inl (ap (λ (k : ℕ). TooMany k) (one_over text m n refused over))
-over_due (Err Memory) text n found refused over = inr refl
+pub over_due : ReadsLines → (r : Result Plan PlanRefusal) (text : List ℕ) (n : ℕ) → IfOk r (λ q. IsPlan q × (text ≡ plan_text q)) → IfErr r (Refuses text) → FirstOver text n → MatchResult r (λ _. ⊥) (λ e. (e ≡ TooMany n) ⊎ (e ≡ Memory))
+over_due reads (Ok q) text n found refused over = not_over reads q text n found.0 found.1 over
+over_due reads (Err (Line m)) text n found refused over = absurd (not_both reads text m n refused over)
+over_due reads (Err (TooMany m)) text n found refused over = inl (ap (λ (k : ℕ). TooMany k) (one_over reads text m n refused over))
+over_due reads (Err Memory) text n found refused over = inr refl

@@ -3,3 +3,4 @@ pub mod Plan
 pub mod Grammar
 pub mod Reading
 pub mod Steps
+pub mod Graphs

@@ -5,6 +5,7 @@ ghost use Rattle.plan_core.specs.Plan.{plan_text, IsPlan};
 ghost use Rattle.plan_core.specs.Grammar.{FirstBad, FirstOver, Refuses};
 ghost use Rattle.plan_core.specs.Steps.{blank_plan};
 
+use crate::laws::lines_are_read_as_they_are_written;
 use crate::refusals::PlanRefusal;
 use crate::steps::{Stage, has_ended, step};
 use crate::types::{Area, Plan};
@@ -31,6 +32,7 @@ fn read_lines(alloc: Global, text: &[u8]) -> Result<Plan, PlanRefusal>
     ensures found { IfOk result (λ p. IsPlan p × (text.now ≡ plan_text p)) }
     ensures refused { IfErr result (Refuses text.now) }
 {
+    lines_are_read_as_they_are_written();
     let mut plan = empty_plan(alloc);
     let mut stage = Stage::Start;
     let mut rest = text;
@@ -67,5 +69,6 @@ pub fn read_plan(alloc: Global, text: &[u8]) -> Result<Plan, PlanRefusal>
     ensures too_many { (n : ℕ) → FirstOver text.now n →
         MatchResult result (λ _. ⊥) (λ e. (e ≡ PlanRefusal.TooMany n) ⊎ (e ≡ PlanRefusal.Memory)) }
 {
+    lines_are_read_as_they_are_written();
     read_lines(alloc, text)
 }

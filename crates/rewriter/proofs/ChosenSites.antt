@@ -1,20 +1,23 @@
 -- What a site of an accepted file gives for its jump and its stub.
-use Rattle.std.proofs.Common.{◌≡◌, ℕ, ◌+◌, ◌%◌, ◌^◌, ◌<◌, ◌≤◌, ◌&&◌, Bool, true, false, List, [], ◌∷◌, Option, Some, None, is_some, refl, sym, ap, ◌∙◌, arith, subst}
+use Rattle.std.proofs.Common.{◌≡◌, ℕ, ◌%◌, ◌^◌, ◌<◌, ◌&&◌, Bool, true, false, List, [], ◌∷◌, Option, Some, None, is_some, refl, sym, ap, ◌∙◌, arith, subst}
 use Rattle.std.specs.Prelude.{flat_map, ◌++◌}
-use Rattle.std.proofs.lemmas.Bool.Decides.{nat_tests}
 use Rattle.rv_isa.specs.declared.Instr.TheVariants.{Jal}
 use Rattle.rv_isa.specs.Encoded.{encoded, IsFormed}
 use Rattle.elf_spec.specs.Code.{code_place, code_word}
+use Rattle.elf_spec.proofs.CodePlaces.{place_of}
 use Rattle.site_spec.specs.declared.Site.{Site}
-use Rattle.site_spec.specs.Places.{minus, reaches}
-use Rattle.site_spec.specs.Rewritten.{site_patches, site_stub}
-use Rattle.site_spec.specs.Stubs.{stub_words}
+use Rattle.rv_isa.specs.Addresses.{minus}
+use Rattle.site_spec.specs.Places.{reaches, text_at, stub_at}
+use Rattle.site_spec.specs.Plans.{IsInReach}
+use Rattle.plan_core.specs.declared.types.PlanLine.{PlanLine}
+use Rattle.new_file_spec.proofs.Jumps.{jump_formed}
+use Rattle.new_file_spec.specs.Rewritten.{site_patches, site_stub}
+use Rattle.new_file_spec.specs.Stubs.{stub_words}
 use Rattle.elf_spec.specs.Fields.{word_bytes}
 use Rattle.site_spec.specs.Sites.{is_call_of_code, kept_site, site_at}
 use Rattle.exec_image.specs.Accepted.{AcceptedFacts}
-use Rattle.image_keeps.specs.Parts.{HasNoPairs}
-use Rattle.image_keeps.proofs.JalSites.{jal_at}
-use Rattle.rewriter.proofs.LeftWords.{place_of}
+use Rattle.new_file_laws.specs.Parts.{HasNoPairs}
+use Rattle.new_file_laws.proofs.JalSites.{jal_at}
 
 word_aligned : (file : List ℕ) (a : ℕ) → AcceptedFacts file → is_some (code_word file a) ≡ true → a % 4 ≡ 0
 word_aligned file a facts h = let (place, e) = place_of file a h in (facts.code a place e).aligned
@@ -51,12 +54,15 @@ back_aligned file a s facts single h =
     let even : a % 4 ≡ 0 = site_aligned file a s facts single h in
     omega (arith, even, jal.back)
 
--- a jump to a place within reach is formed
-pub jump_formed : (to a : ℕ) → to < 2 ^ 31 → a % 4 ≡ 0 → to % 4 ≡ 0 → reaches a to ≡ true → IsFormed (Jal 0 (minus to a))
-jump_formed to a room even aligned reach =
-    let back : a ≤ to + 1048576 = grind (arith, nat_tests) in
-    let ahead : to ≤ a + 1048574 = grind (arith, nat_tests) in
-    (omega arith, record { word = omega arith; sign = omega (arith, room, back, ahead) }, omega (arith, even, aligned, room, back))
+-- the jump to a chosen site's stub is an instruction
+pub formed_jump : (file : List ℕ) (line : PlanLine) (k to : ℕ) (s : Site) → AcceptedFacts file → HasNoPairs file
+    → IsInReach file (Some line) k → Some s ≡ site_at file line.addr → to ≡ stub_at (text_at file) k → to % 4 ≡ 0
+    → to < 2 ^ 31 → IsFormed (Jal 0 (minus to s.addr))
+formed_jump file line k to s facts single reach e place even low =
+    let h : site_at file line.addr ≡ Some s = sym e in
+    let near : reaches line.addr to ≡ true = subst (λ z. reaches line.addr z ≡ true) (sym place) (reach s h (single line.addr s h)) in
+    subst (λ x. IsFormed (Jal 0 (minus to x))) (sym (site_addr file line.addr s single h))
+    (jump_formed to line.addr low (site_aligned file line.addr s facts single h) even near)
 
 -- the one patch of a site that is no pair
 pub one_patch : (file : List ℕ) (to place : ℕ) (s : Site) → s.pair ≡ false → code_place file s.addr ≡ Some place

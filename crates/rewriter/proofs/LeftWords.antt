@@ -8,6 +8,7 @@ use Rattle.elf_spec.specs.declared.HeapName.TheVariants.{Malloc, Calloc, Realloc
 use Rattle.elf_spec.specs.Code.{code_place, code_word}
 use Rattle.elf_spec.specs.Heap.{heap_entries, heap_entry, heap_names}
 use Rattle.elf_spec.specs.Memory.{image_end}
+use Rattle.elf_spec.proofs.CodePlaces.{place_of}
 use Rattle.elf_spec.specs.Records.{segments_of}
 use Rattle.elf_read.proofs.Below.{below_none}
 use Rattle.site_spec.specs.declared.Site.{Site}
@@ -18,22 +19,14 @@ use Rattle.exec_image.specs.declared.heap.HeapEntries.{HeapEntries}
 use Rattle.exec_image.specs.Calls.{is_word_of}
 use Rattle.exec_image.specs.CodeParts.{IsHeap}
 use Rattle.exec_image.proofs.HeapWords.{heap_word}
-use Rattle.image_keeps.specs.Parts.{HasNoPairs}
-use Rattle.image_keeps.proofs.CodeMemory.{code_below}
+use Rattle.new_file_laws.specs.Parts.{HasNoPairs}
+use Rattle.new_file_laws.proofs.CodeMemory.{code_below}
 use Rattle.rewriter.specs.Left.{is_left_at, not_yet}
 
 -- an address of no code word isn't left
 pub no_word : (file : List ℕ) (a : ℕ) → code_word file a ≡ None → is_left_at file a ≡ false
 unfolding is_left_at
 no_word file a h = rw h refl
-
--- the place of a code word
-pub place_of : (file : List ℕ) (a : ℕ) → is_some (code_word file a) ≡ true → (place : ℕ) × (code_place file a ≡ Some place)
-place_of file a h = decide (code_place file a) refl
-  where
-    decide : (o : Option ℕ) → code_place file a ≡ o → (place : ℕ) × (code_place file a ≡ Some place)
-    decide (Some place) e = (place, e)
-    decide None e = absurd (let q : false ≡ true = rw e at h in cc)
 
 -- where none is left, no code word is
 none_left : (file : List ℕ) (a : ℕ) → AcceptedFacts file → not_yet file ≡ None → is_some (code_word file a) ≡ true → is_left_at file a ≡ false
@@ -52,10 +45,9 @@ site_there file a s h = decide (code_place file a) refl
     decide (Some place) e = rw e refl
     decide None e = absurd (let q : None ≡ Some s = rw e at h in cc)
 
-neither : (a b c : Bool) → (a || (b || c)) ≡ false → (a ≡ false) × (b ≡ false)
-neither false false c h = (refl, refl)
-neither false true c h = absurd (cc)
-neither true b c h = absurd (cc)
+neither : (a b : Bool) → (a || b) ≡ false → (a ≡ false) × (b ≡ false)
+neither false b h = (refl, h)
+neither true b h = absurd (cc)
 
 -- a code word that isn't left is no heap function's, and no pair begins at it
 not_left : (file : List ℕ) (a : ℕ) → is_some (code_word file a) ≡ true → is_left_at file a ≡ false
@@ -64,7 +56,7 @@ unfolding is_left_at
 not_left file a there h = decide (code_place file a) refl
   where
     decide : (o : Option ℕ) → code_place file a ≡ o → (is_heap_word file a ≡ false) × (is_pair (site_at file a) ≡ false)
-    decide (Some place) e = neither (is_heap_word file a) (is_pair (site_at file a)) _ (rw e at h)
+    decide (Some place) e = neither (is_heap_word file a) (is_pair (site_at file a)) (rw e at h)
     decide None e = absurd (let q : false ≡ true = rw e at there in cc)
 
 pub no_pairs : (file : List ℕ) → AcceptedFacts file → not_yet file ≡ None → HasNoPairs file

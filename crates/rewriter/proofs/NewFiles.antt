@@ -8,15 +8,16 @@ use Rattle.elf_spec.specs.Heap.{heap_entries}
 use Rattle.elf_spec.specs.NewFile.{new_file}
 use Rattle.elf_spec.specs.Records.{e_entry}
 use Rattle.plan_core.specs.declared.types.Plan.{Plan}
-use Rattle.site_spec.specs.Rewritten.{NewFile, rewritten}
+use Rattle.new_file_spec.specs.Rewritten.{NewFile, rewritten}
 use Rattle.elf_read.specs.Elf.{IsReadable}
 use Rattle.elf_write.specs.Kept.{AreFieldsAlone}
 use Rattle.elf_write.specs.Layout.{AreApart, IsBeside, IsKept, NewLayout}
 use Rattle.exec_image.specs.Images.{IsAccepted}
 use Rattle.exec_image.specs.PlanFaults.{plan_fault}
 use Rattle.site_spec.specs.Plans.{Fits}
-use Rattle.match_spec.specs.Keeps.{Keeps}
-use Rattle.site_spec.specs.Rewritten.{patches_for, segments_for}
+use Rattle.match_spec.specs.Keeps.{Keeps, Reaches}
+use Rattle.match_spec.specs.Same.{DoesTheSame}
+use Rattle.new_file_spec.specs.Rewritten.{patches_for, segments_for}
 use Rattle.rewriter.specs.Left.{not_yet}
 use Rattle.rewriter.specs.Rewrites.{IsRewritten}
 
@@ -51,9 +52,22 @@ pub new_file_is : (file : List ℕ) (plan : Plan) (new : List ℕ) → new ≡ n
 unfolding rewritten
 new_file_is file plan new e no_heap = record { no_heap = no_heap; bytes = e }
 
+-- states that match have written the same, have the same input left and have ended alike
+does_the_same : (file : List ℕ) (plan : Plan) (new : List ℕ) → Keeps file plan new → DoesTheSame file plan new
+does_the_same file plan new keeps input bytes n safe =
+    let r : Reaches file plan new input n = keeps input bytes n safe in
+    record {
+      turns = r.turns;
+      least = r.least;
+      most = r.most;
+      output = r.state.output;
+      input_left = r.state.input;
+      ending = r.state.machines.ending;
+    }
+
 -- a file that passes all checks is rewritten as the new file of its image
 pub rewritten_is : (file image : List ℕ) (plan : Plan) (new : List ℕ) → image ≡ file → IsAccepted file → plan_fault image plan ≡ None → not_yet image ≡ None
-    → Fits image plan → NewFile image plan new → (All (λ b. b < 256) image → Keeps image plan new) → (AreFieldsAlone image → IsReadable new)
+    → Fits image plan → NewFile image plan new → Keeps image plan new → (AreFieldsAlone image → IsReadable new)
     → length new ≤ 34603008 → IsRewritten file plan new
 rewritten_is file image plan new same accepted sound known fits is_new keeps readable short =
     subst (λ f. IsRewritten f plan new) same (record {
@@ -61,6 +75,7 @@ rewritten_is file image plan new same accepted sound known fits is_new keeps rea
       fits = fits;
       is_new = is_new;
       keeps = keeps;
+      same = does_the_same image plan new keeps;
       readable = readable;
       short = short;
     })

@@ -1,14 +1,15 @@
 -- What the rewriting of a file by a plan comes to.
-use Rattle.std.specs.Prelude.{◌≡◌, ℕ, ◌<◌, ◌≤◌, List, All, length, Option, None, option_map}
+use Rattle.std.specs.Prelude.{◌≡◌, ℕ, ◌≤◌, List, length, Option, None, option_map}
 use Rattle.plan_core.specs.declared.types.Plan.{Plan}
 use Rattle.site_spec.specs.Plans.{Fits}
-use Rattle.site_spec.specs.Rewritten.{NewFile}
+use Rattle.new_file_spec.specs.Rewritten.{NewFile}
 use Rattle.elf_read.specs.Elf.{IsReadable}
 use Rattle.elf_read.specs.Refusals.{◌or_else◌}
 use Rattle.elf_write.specs.Kept.{AreFieldsAlone}
 use Rattle.exec_image.specs.PlanFaults.{plan_fault}
 use Rattle.exec_image.specs.Refusals.{file_refusal}
 use Rattle.match_spec.specs.Keeps.{Keeps}
+use Rattle.match_spec.specs.Same.{DoesTheSame}
 use Rattle.rewriter.specs.declared.refusal.RewriteRefusal.{RewriteRefusal}
 use Rattle.rewriter.specs.declared.refusal.RewriteRefusal.TheVariants.{File, Plan as Misfit, NotYet}
 use Rattle.rewriter.specs.Left.{not_yet}
@@ -25,8 +26,9 @@ pub record IsRewritten (file : List ℕ) (plan : Plan) (new : List ℕ) : Type 0
   pub due : rewrite_refusal file plan ≡ None
   pub fits : Fits file plan
   pub is_new : NewFile file plan new
-  -- the new file keeps the behaviour of the file, which is a list of bytes
-  pub keeps : All (λ b. b < 256) file → Keeps file plan new
+  -- the new file keeps the behaviour of the file: it writes the same, leaves the same input and ends alike
+  pub keeps : Keeps file plan new
+  pub same : DoesTheSame file plan new
   -- it is readable, where neither the section headers of the file, nor its symbols or their strings lie over
   -- the two fields of the file header that change, and is short enough to be run
   pub readable : AreFieldsAlone file → IsReadable new

@@ -2,10 +2,10 @@
 ghost use Rattle.std.specs.Prelude.{◌≡◌, ℕ, ◌<◌, ◌≤◌, ◌++◌, Some, length, slice_get, IfOk, OnOk};
 ghost use Rattle.site_spec.specs.Places.{text_at, stub_at};
 ghost use Rattle.site_spec.specs.Plans.{IsInReach};
-ghost use Rattle.site_spec.specs.Rewritten.{site_patches, patches_from};
+ghost use Rattle.new_file_spec.specs.Rewritten.{site_patches, patches_from};
 ghost use Rattle.site_spec.specs.Sites.{site_at};
 ghost use Rattle.exec_image.specs.Accepted.{AcceptedFacts};
-ghost use Rattle.image_keeps.specs.Parts.{HasNoPairs};
+ghost use Rattle.new_file_laws.specs.Parts.{HasNoPairs};
 
 use crate::places::stub_place;
 use elf_spec::Patch;

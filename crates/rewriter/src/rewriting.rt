@@ -2,7 +2,7 @@
 
 ghost use Rattle.std.specs.Prelude.{◌≡◌, ◌≢◌, ◌<◌, ◌≤◌, ◌⊎◌, None, Some, length, All, IfErr, IfOk};
 ghost use Rattle.site_spec.specs.Plans.{Fits};
-ghost use Rattle.site_spec.specs.Rewritten.{NewFile};
+ghost use Rattle.new_file_spec.specs.Rewritten.{NewFile};
 ghost use Rattle.elf_read.specs.Elf.{IsReadable};
 ghost use Rattle.elf_write.specs.Kept.{AreFieldsAlone};
 ghost use Rattle.match_spec.specs.Keeps.{Keeps};
@@ -15,9 +15,18 @@ use crate::refusal::RewriteRefusal;
 use crate::text::text_segment;
 use elf_write::with_segments;
 use exec_image::{FileRefusal, Image, accept, check_plan};
-use image_keeps::{fitting_plans_have_few_sites, new_files_keep_behaviour, parts_fit_the_file};
+use new_file_laws::{fitting_plans_have_few_sites, new_files_keep_behaviour, parts_fit_the_file};
 use plan_core::Plan;
 use std::alloc::{AllocError, Global};
+
+/// Each number of some bytes is below 256.
+fn are_bytes(bytes: &[u8])
+    ensures { All (λ b. b < 256) bytes.now }
+{
+    for byte in bytes {
+        let _value = *byte;
+    }
+}
 
 /// The new file of an accepted executable with no word that isn't rewritten yet, and a plan that fits
 /// it.
@@ -27,7 +36,7 @@ fn new_file_of(alloc: Global, image: &Image, plan: &Plan) -> Result<Vec<u8>, All
     requires fits { Fits image.now plan.now }
     requires known { not_yet image.now ≡ None }
     ensures is { IfOk result (λ new. NewFile image.now plan.now new.items) }
-    ensures keeps { IfOk result (λ new. All (λ b. b < 256) image.now → Keeps image.now plan.now new.items) }
+    ensures keeps { IfOk result (λ new. Keeps image.now plan.now new.items) }
     ensures readable { IfOk result (λ new. AreFieldsAlone image.now → IsReadable new.items) }
     ensures short { IfOk result (λ new. length new.items ≤ 34603008) }
 {
@@ -35,10 +44,13 @@ fn new_file_of(alloc: Global, image: &Image, plan: &Plan) -> Result<Vec<u8>, All
     parts_fit_the_file();
     new_files_keep_behaviour();
     let elf = image.elf();
+    let source = image.file();
+    are_bytes(source);
     let lines = plan.sites.as_slice();
     let patches = site_patches(alloc, image, lines)?;
     let text = text_segment(alloc, image, lines)?;
-    let new = with_segments(alloc, elf, image.file(), &patches, &[text])?;
+    let new = with_segments(alloc, elf, source, &patches, &[text])?;
+    are_bytes(&new);
     Ok(new)
 }
 

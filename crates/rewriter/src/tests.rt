@@ -70,7 +70,7 @@ fn put_file(alloc: Global) -> Result<Vec<u8>, AllocError> {
     builder.finish(alloc)
 }
 
-/// The file of the program whose `malloc` is made of known instructions.
+/// The file of the program that doesn't call its `malloc`.
 fn small_file(alloc: Global) -> Result<Vec<u8>, AllocError> {
     let mut builder = begin(alloc, &SMALL)?;
     builder.symbol(alloc, "malloc", 0x1010c, 8)?;
@@ -199,7 +199,7 @@ fn the_lowest_word_that_is_left_is_named(rt: HostRuntime) -> Result<(), Fail> {
     let pair = pair_file(alloc)?;
     check_refusal(&rt, alloc, &pair, EMPTY, "file: not yet at 00010104")?;
     let blocks = blocks_file(alloc)?;
-    check_refusal(&rt, alloc, &blocks, EMPTY, "file: not yet at 00010114")
+    check_refusal(&rt, alloc, &blocks, EMPTY, "file: not yet at 00010120")
 }
 
 #[test]

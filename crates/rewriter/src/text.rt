@@ -2,10 +2,10 @@
 ghost use Rattle.std.specs.Prelude.{◌≡◌, ◌+◌, ◌*◌, ◌<◌, ◌≤◌, ◌++◌, length, flat_map, All, IfOk, OnOk};
 ghost use Rattle.elf_spec.specs.Fields.{word_bytes};
 ghost use Rattle.site_spec.specs.Places.{text_at, stub_at};
-ghost use Rattle.site_spec.specs.Rewritten.{mark, site_stub, stubs_from, text_segment};
+ghost use Rattle.new_file_spec.specs.Rewritten.{mark, site_stub, stubs_from, text_segment};
 ghost use Rattle.site_spec.specs.Sites.{site_at};
 ghost use Rattle.exec_image.specs.Accepted.{AcceptedFacts};
-ghost use Rattle.image_keeps.specs.Parts.{HasNoPairs};
+ghost use Rattle.new_file_laws.specs.Parts.{HasNoPairs};
 
 use crate::places::stub_place;
 use bitflags::Flags;

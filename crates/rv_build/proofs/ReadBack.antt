@@ -8,6 +8,7 @@ use Rattle.elf_spec.specs.declared.Section.{Section}
 use Rattle.elf_spec.specs.declared.Reloc.{Reloc}
 use Rattle.elf_spec.specs.Fields.{word_at, word_bytes}
 use Rattle.elf_spec.specs.Records.{entries, reloc_at, section_at, segment_at}
+use Rattle.elf_spec.proofs.Entries.{entries_first}
 use Rattle.rv_build.specs.RecordBytes.{reloc_bytes, section_bytes, segment_bytes}
 
 -- `All` over a list that begins with an element
@@ -16,13 +17,6 @@ all_head P x xs w = w 0 x (omega arith)
 
 all_tail : {A : Type 0} (P : A → Type 0) (x : A) (xs : List A) → All P (x ∷ xs) → All P xs
 all_tail P x xs w = λ k d m. w (suc k) d (omega arith)
-
--- a table's first record
-entries_first : {A : Type 0} (f : ℕ → A) (size at n : ℕ) → entries f size at (suc n) ≡ f at ∷ entries f size (at + size) n
-entries_first f size at zero = let e : at + size * 0 ≡ at = omega arith in ap (λ i. f i ∷ []) e
-entries_first f size at (suc n) =
-    let e : at + size * suc n ≡ at + size + size * n = omega arith in
-    ap (λ xs. xs ++ f (at + size * suc n) ∷ []) (entries_first f size at n) ∙ ap (λ i. f at ∷ (entries f size (at + size) n ++ f i ∷ [])) e
 
 -- a word behind other bytes
 word_behind : (pre ys : List ℕ) (o : ℕ) → word_at (pre ++ ys) (length pre + o) ≡ word_at ys o

@@ -4,3 +4,4 @@ pub mod Encoded
 pub mod Split
 pub mod Names
 pub mod Compute
+pub mod Addresses

@@ -1,7 +1,7 @@
 // Words read as instructions: cases by opcode, then by funct3 and funct7.
-ghost use Rattle.std.specs.Prelude.{◌≡◌, ◌/◌, ◌%◌, ◌^◌, IfSome};
+ghost use Rattle.std.specs.Prelude.{◌≡◌, ◌/◌, ◌%◌, ◌^◌, ◌↔◌, IfSome, All};
 ghost use Rattle.rv_isa.specs.Words.{rd, rs1, rs2, imm_i, imm_s, imm_b};
-ghost use Rattle.rv_isa.specs.Table.{decoded};
+ghost use Rattle.rv_isa.specs.Table.{table, decoded, Fits};
 ghost use Rattle.rv_isa.specs.Encoded.{IsFormed, NamesRegisters};
 
 use crate::fields::{imm_b_of, imm_i_of, imm_j_of, imm_s_of, imm_u_of, rd_of, rs1_of, rs2_of};
@@ -11,6 +11,7 @@ use crate::{Cond, Instr, Op, Width};
 /// every instruction beyond RV32I and M, and for the compressed ones.
 pub fn decode(word: u32) -> Option<Instr>
     ensures exact { result ≡ decoded word }
+    ensures none { (result ≡ None) ↔ All (λ row. ¬ Fits row word) table }
     ensures registers { IfSome result NamesRegisters }
     ensures formed { IfSome result IsFormed }
 {

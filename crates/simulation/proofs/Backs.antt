@@ -12,9 +12,9 @@ use Rattle.site_spec.specs.declared.Site.{Site}
 use Rattle.site_spec.specs.Places.{text_at}
 use Rattle.site_spec.specs.Sites.{site_at}
 use Rattle.sym_spec.specs.SymMachine.{back_index, is_back, line_at}
-use Rattle.match_spec.specs.Stands.{back_of, back_in}
-use Rattle.match_spec.specs.Matches.{text_room, IsReturn}
-use Rattle.simulation.specs.Ground.{Ground}
+use Rattle.match_spec.specs.Stands.{back_of, back_in, IsReturn}
+use Rattle.match_spec.specs.Parts.{text_room}
+use Rattle.simulation.specs.Ground.{Ground, IsUnchosen}
 
 -- the site line whose call comes back to an address
 pub record BackLine (file : List ℕ) (lines : List PlanLine) (a k : ℕ) : Type 0 where
@@ -60,7 +60,7 @@ back_small file plan new a g h = by_index (back_index file plan.sites a) refl
     by_index (Some k) e =
         let line : BackLine file plan.sites a k = back_line file plan.sites a k e in
         let below : k < 32 = omega (arith, line.below, g.few) in
-        let low : text_at file + text_room ≤ 0x7FF00000 = g.low_text in
+        let low : text_at file + text_room ≤ 0x7FF00000 = g.memory.low_text in
         let aligned : text_at file % 4 ≡ 0 = g.aligned_text in
         (omega (arith, below, low), omega (arith, aligned))
 
@@ -78,8 +78,8 @@ line_none (l ∷ lines) a k line none e = at (line_none lines a) (nat_eq l.addr 
         subst (λ x. x.addr ≢ a) same other
     at ih false q (suc k) none e = ih k line none e
 
--- behind an instruction that no line names no chosen call comes back
-pub back_same : (file : List ℕ) (plan : Plan) (new : List ℕ) (a : ℕ) → Ground file plan new → line_at plan.sites a ≡ None → back_of file plan (a + 4) ≡ a + 4
+-- behind an unchosen instruction no chosen call comes back
+pub back_same : (file : List ℕ) (plan : Plan) (new : List ℕ) (a : ℕ) → Ground file plan new → IsUnchosen file plan a → back_of file plan (a + 4) ≡ a + 4
 unfolding back_of
 back_same file plan new a g none = by_index (back_index file plan.sites (a + 4)) refl
   where
@@ -89,7 +89,7 @@ back_same file plan new a g none = by_index (back_index file plan.sites (a + 4))
         let line : BackLine file plan.sites (a + 4) k = back_line file plan.sites (a + 4) k e in
         let back : line.site.back ≡ line.line.addr + 4 = (g.jal_sites line.line.addr line.site line.at).back in
         let here : line.line.addr ≡ a = omega (arith, back, line.back) in
-        absurd (line_none plan.sites a k line.line none line.there here)
+        absurd (line_none plan.sites a k line.line none.none line.there here)
 
 position-None : (p : PlanLine → Bool) (xs : List PlanLine) → position p xs ≡ None → (k : ℕ) (d : PlanLine) → k < length xs → p (get_or xs k d) ≡ false
 position-None p xs none k d below = at (nat_lt (position_or_len p xs) (length xs)) refl none
@@ -148,8 +148,7 @@ index_is file plan new a line s h g site = by_index (back_index file plan.sites 
         absurd (let apart : s.back ≢ a + 4 = grind (arith, nat_tests) in apart back)
     by_index (Some k) e =
         let found : BackLine file plan.sites (a + 4) k = back_line file plan.sites (a + 4) k e in
-        let found_back : found.site.back ≡ found.line.addr + 4 = (g.jal_sites found.line.addr found.site found.at).back in
-        let same_addr : found.line.addr ≡ line.addr = omega (arith, found_back, found.back, h.addr) in
+        let same_addr : found.line.addr ≡ line.addr = g.backs found.line.addr line.addr found.site s found.at here (found.back ∙ sym back) in
         let below : h.number < length plan.sites = slice_get_within plan.sites h.number line h.there in
         let first_value : get_or plan.sites k some_line ≡ found.line = get_or_from_slice_get plan.sites k found.line some_line found.there in
         let second_value : get_or plan.sites h.number some_line ≡ line = get_or_from_slice_get plan.sites h.number line some_line h.there in

@@ -1,4 +1,5 @@
--- A turn of the symbol machine is followed by one to seven turns of the flat machine.
+-- A turn of the symbol machine is followed by turns of the flat machine, at least one and no more than the
+-- turn bound.
 use Rattle.std.proofs.Common.{◌≡◌, ℕ, ◌+◌, ◌≤◌, List, ◌++◌, Bool, true, false, cond, refl, ap, sym, ◌∙◌, arith}
 use Rattle.std.specs.Prelude.{Option, Some, None}
 use Rattle.rv_isa.specs.declared.Instr.{Instr}
@@ -18,21 +19,21 @@ use Rattle.sym_spec.specs.Cells.{Cells}
 use Rattle.sym_spec.specs.SymMachine.{SymMachine}
 use Rattle.sym_spec.specs.SymCalls.{SymTurn}
 use Rattle.sym_spec.specs.SymTurns.{Nothing, Pair, Code, here, here_with, is_second, executes, acts}
-use Rattle.match_spec.specs.Matches.{text_room}
-use Rattle.match_spec.specs.Keeps.{IsNoFault}
+use Rattle.match_spec.specs.Stands.{Places}
+use Rattle.match_spec.specs.Parts.{InMemory, text_room}
+use Rattle.match_spec.specs.Matches.{InStep}
+use Rattle.match_spec.specs.Keeps.{IsNoFault, turn_bound}
 use Rattle.simulation.specs.Ground.{Ground}
-use Rattle.simulation.proofs.InMemory.{InMemory}
-use Rattle.simulation.proofs.Stepping.{InStep}
 use Rattle.simulation.proofs.Calling.{TurnsAlike, quiet_alike}
 use Rattle.simulation.proofs.Acting.{IsPlainInstr}
 use Rattle.site_stubs.specs.StubRuns.{state_of}
-use Rattle.simulation.proofs.Steps.{one_step}
+use Rattle.flat_spec.proofs.Runs.{one_step}
 
 -- so many flat turns lead to a machine in step, with the same input left and the same bytes written
 pub record Follows (file : List ℕ) (plan : Plan) (new : List ℕ) (t : SymTurn) (m : Machine) (input output : List ℕ) : Type 0 where
   pub turns : ℕ
   pub some : 1 ≤ turns
-  pub few : turns ≤ 7
+  pub few : turns ≤ turn_bound plan.area
   pub machine : Machine
   pub is : steps turns (state_of m input output) ≡ state_of machine t.left (output ++ t.written)
   pub next : InStep file plan new t.next machine
@@ -52,20 +53,24 @@ follows_one file plan new t m input output h = record {
 }
 
 -- what is fetched from the code and from the new text is the new file's
-pub fetch_code : (file : List ℕ) (plan : Plan) (new : List ℕ) (cells : Cells) (memory : List Range) (a w : ℕ) → Ground file plan new → InMemory file plan new cells memory
+pub fetch_code : (file : List ℕ) (plan : Plan) (new : List ℕ) (places : Places) (cells : Cells) (memory : List Range) (a w : ℕ) → Ground file plan new → InMemory file new places cells memory
     → code_word file a ≡ Some w → fetched memory a ≡ fetched (memory_of new) a
-fetch_code file plan new cells memory a w g h code =
+fetch_code file plan new places cells memory a w g h code =
     fetched_same memory (memory_of new) a h.shape (λ k low high. h.code k (g.code_bytes a w k code low high))
 
-pub fetch_text : (file : List ℕ) (plan : Plan) (new : List ℕ) (cells : Cells) (memory : List Range) (a : ℕ) → Ground file plan new → InMemory file plan new cells memory
+pub fetch_text : (file new : List ℕ) (places : Places) (cells : Cells) (memory : List Range) (a : ℕ) → InMemory file new places cells memory
     → text_at file ≤ a → a + 4 ≤ text_at file + text_room → fetched memory a ≡ fetched (memory_of new) a
-fetch_text file plan new cells memory a g h low high =
+fetch_text file new places cells memory a h low high =
     fetched_same memory (memory_of new) a h.shape (λ k l t. h.text k (omega (arith, low, l)) (omega (arith, high, t)))
 
 -- what stands at an address
-pub here_code : (file : List ℕ) (a w : ℕ) → here file a ≡ Code w → code_word file a ≡ Some w
+pub record IsCodeHere (file : List ℕ) (a w : ℕ) : Type 0 where
+  pub code : code_word file a ≡ Some w
+  pub alone : is_second file a ≡ false
+
+pub here_code : (file : List ℕ) (a w : ℕ) → here file a ≡ Code w → IsCodeHere file a w
 unfolding here
-here_code file a w e = at (is_second file a) e
+here_code file a w e = at (is_second file a) refl e
   where
     inner : (o : Option ℕ) (p : Option Site) → here_with o p ≡ Code w → o ≡ Some w
     inner (Some v) (Some s) e = pair s.pair e
@@ -76,9 +81,9 @@ here_code file a w e = at (is_second file a) e
     inner (Some v) None e = cc
     inner None p e = absurd (cc)
 
-    at : (b : Bool) → cond b Nothing (here_with (code_word file a) (site_at file a)) ≡ Code w → code_word file a ≡ Some w
-    at true e = absurd (cc)
-    at false e = inner (code_word file a) (site_at file a) e
+    at : (b : Bool) → is_second file a ≡ b → cond b Nothing (here_with (code_word file a) (site_at file a)) ≡ Code w → IsCodeHere file a w
+    at true q e = absurd (cc)
+    at false q e = record { code = inner (code_word file a) (site_at file a) e; alone = q }
 
 pub no_pair : (file : List ℕ) (plan : Plan) (new : List ℕ) (a : ℕ) (s : Site) → Ground file plan new → here file a ≡ Pair s → ⊥
 unfolding here

@@ -5,40 +5,41 @@ use Rattle.std.specs.Prelude.{Option, Some, None, is_some, nat_eq, slice_set}
 use Rattle.std.proofs.lemmas.Bool.Decides.{nat_tests}
 use Rattle.elf_spec.specs.Code.{code_word}
 use Rattle.plan_core.specs.declared.types.Plan.{Plan}
-use Rattle.site_spec.specs.Places.{plus, text_at}
+use Rattle.rv_isa.specs.Addresses.{plus}
+use Rattle.site_spec.specs.Places.{text_at}
 use Rattle.machine_spec.specs.declared.FaultKind.TheVariants.{F3}
 use Rattle.machine_spec.specs.Start.{behind}
 use Rattle.flat_spec.specs.Machine as flat
 use Rattle.flat_spec.specs.Machine.{Machine, register}
 use Rattle.sym_spec.specs.declared.Value.TheVariants.{Num, Ret}
 use Rattle.sym_spec.specs.SymMachine.{SymMachine, faults, links, goes_to, jumps, goes_back, line_at, set_bit, back_index}
-use Rattle.match_spec.specs.Stands.{back_of}
-use Rattle.match_spec.specs.Matches.{IsReturn, text_room}
+use Rattle.match_spec.specs.Stands.{back_of, places_of, IsReturn}
+use Rattle.match_spec.specs.Parts.{InRegisters, text_room}
+use Rattle.match_spec.specs.Matches.{InStep}
 use Rattle.match_spec.specs.Keeps.{IsNoFault}
-use Rattle.simulation.specs.Ground.{Ground}
+use Rattle.simulation.specs.Ground.{Ground, IsUnchosen}
 use Rattle.simulation.proofs.Backs.{back_small, back_same}
 use Rattle.simulation.proofs.Operations.{holds_num, holds_ret}
-use Rattle.simulation.proofs.Registers.{InRegisters, put_register, put_zero, put_unset}
-use Rattle.simulation.proofs.Stepping.{InStep}
+use Rattle.simulation.proofs.Registers.{put_register, put_zero, put_unset}
 
 -- behind a code word lies the next word
 pub behind_code : (file : List ℕ) (plan : Plan) (new : List ℕ) (a w : ℕ) → Ground file plan new → code_word file a ≡ Some w → behind a ≡ a + 4
 behind_code file plan new a w g e =
     let low : a + 4 ≤ text_at file = g.low_code a w e in
-    let room : text_at file + text_room ≤ 0x7FF00000 = g.low_text in
+    let room : text_at file + text_room ≤ 0x7FF00000 = g.memory.low_text in
     omega (arith, low, room)
 
 -- the registers after a link, on both machines
 pub links_alike : (file : List ℕ) (plan : Plan) (new : List ℕ) (s : SymMachine) (m : Machine) (w r : ℕ) → Ground file plan new → InStep file plan new s m
-    → code_word file s.pc ≡ Some w → line_at plan.sites s.pc ≡ None → r < 32 → r ≢ 4
-    → InRegisters file plan (links plan r s).registers (slice_set m.registers r (behind m.pc)) (links plan r s).bits
+    → code_word file s.pc ≡ Some w → IsUnchosen file plan s.pc → r < 32 → r ≢ 4
+    → InRegisters (places_of file plan) (links plan r s).registers (slice_set m.registers r (behind m.pc)) (links plan r s).bits
 links_alike file plan new s m w r g h code none small other = rw h.pc (at (nat_eq r 1) refl)
   where
     next : behind s.pc ≡ s.pc + 4
     next = behind_code file plan new s.pc w g code
 
     at : (t : Bool) → nat_eq r 1 ≡ t
-        → InRegisters file plan
+        → InRegisters (places_of file plan)
         (cond t (record s { registers = slice_set s.registers 1 (Ret (behind s.pc)); bits = set_bit (line_at plan.sites s.pc) s.bits })
         (record s { registers = slice_set s.registers r (Num (behind s.pc)) })).registers
         (slice_set m.registers r (behind s.pc))
@@ -47,12 +48,12 @@ links_alike file plan new s m w r g h code none small other = rw h.pc (at (nat_e
     at true e =
         let ra : r ≡ 1 = grind (arith, nat_tests) in
         let low : s.pc + 4 ≤ text_at file = g.low_code s.pc w code in
-        let room : text_at file + text_room ≤ 0x7FF00000 = g.low_text in
+        let room : text_at file + text_room ≤ 0x7FF00000 = g.memory.low_text in
         let aligned : s.pc % 4 ≡ 0 = g.aligned s.pc w code in
         let is : IsReturn (s.pc + 4) = (omega (arith, low, room), omega (arith, aligned)) in
-        rw (ra, none, next) (put_register file plan s.registers m.registers s.bits 1 (Ret (s.pc + 4)) (s.pc + 4) h.registers (omega arith) (omega arith)
-        (holds_ret file plan (s.pc + 4) (s.pc + 4) is (back_same file plan new s.pc g none)))
-    at false e = put_register file plan s.registers m.registers s.bits r (Num (behind s.pc)) (behind s.pc) h.registers small other (holds_num file plan (behind s.pc))
+        rw (ra, none.none, next) (put_register (places_of file plan) s.registers m.registers s.bits 1 (Ret (s.pc + 4)) (s.pc + 4) h.registers (omega arith) (omega arith)
+        (holds_ret (places_of file plan) (s.pc + 4) (s.pc + 4) is (back_same file plan new s.pc g none) (omega (arith, low, room))))
+    at false e = put_register (places_of file plan) s.registers m.registers s.bits r (Num (behind s.pc)) (behind s.pc) h.registers small other (holds_num (places_of file plan) (behind s.pc) (omega arith))
 
 -- the code word at a jump's target
 pub target_aligned : (file : List ℕ) (plan : Plan) (new : List ℕ) (a : ℕ) → Ground file plan new → is_some (code_word file a) ≡ true → a % 4 ≡ 0
@@ -85,7 +86,7 @@ links_cells plan r s = at (nat_eq r 1)
 
 -- a jump to a code word
 pub jumps_alike : (file : List ℕ) (plan : Plan) (new : List ℕ) (s : SymMachine) (m : Machine) (w r target : ℕ) → Ground file plan new → InStep file plan new s m
-    → code_word file s.pc ≡ Some w → line_at plan.sites s.pc ≡ None → r < 32 → r ≢ 4 → IsNoFault (jumps file plan r target s).ending
+    → code_word file s.pc ≡ Some w → IsUnchosen file plan s.pc → r < 32 → r ≢ 4 → IsNoFault (jumps file plan r target s).ending
     → InStep file plan new (jumps file plan r target s) (flat.jumps r target m)
 jumps_alike file plan new s m w r target g h code none small other safe = at (is_some (code_word file target)) refl safe
   where
@@ -111,7 +112,7 @@ branch_alike file plan new s m target g h safe = at (is_some (code_word file tar
         rw (flat_jump 0 target m (target_aligned file plan new target g e)) (record {
           pc = refl;
           ending = h.ending;
-          registers = put_zero file plan s.registers m.registers s.bits (behind m.pc) h.registers;
+          registers = put_zero (places_of file plan) s.registers m.registers s.bits (behind m.pc) h.registers;
           memory = h.memory;
         })
     at false e safe = absurd safe
@@ -133,7 +134,7 @@ unfolding back_of
 back_alike file plan new s m back g h none = rw none (record {
   pc = refl;
   ending = h.ending;
-  registers = put_unset file plan s.registers (slice_set m.registers 0 (behind m.pc)) s.bits 1
-      (put_zero file plan s.registers m.registers s.bits (behind m.pc) h.registers) (omega arith) (omega arith);
+  registers = put_unset (places_of file plan) s.registers (slice_set m.registers 0 (behind m.pc)) s.bits 1
+      (put_zero (places_of file plan) s.registers m.registers s.bits (behind m.pc) h.registers) (omega arith) (omega arith);
   memory = h.memory;
 })

@@ -8,8 +8,8 @@ pub mod Stepping
 pub mod Jumping
 pub mod Calling
 pub mod Acting
-pub mod Steps
 pub mod StubJump
 pub mod Following
 pub mod Turning
+pub mod InputLeft
 pub mod Running

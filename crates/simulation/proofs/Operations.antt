@@ -12,14 +12,11 @@ use Rattle.rv_isa.specs.declared.Op.{Op}
 use Rattle.rv_isa.specs.declared.Op.TheVariants.{Add, Sub, Sll, Slt, Sltu, Xor, Srl, Sra, Or, And, Mul, Mulh, Mulhsu, Mulhu, Div, Divu, Rem, Remu}
 use Rattle.rv_isa.specs.declared.Cond.{Cond}
 use Rattle.rv_isa.specs.Compute.{computed, is_held}
-use Rattle.plan_core.specs.declared.types.Plan.{Plan}
+use Rattle.rv_isa.proofs.Bounds.{computed-lt}
 use Rattle.sym_spec.specs.declared.Value.{Value}
 use Rattle.sym_spec.specs.declared.Value.TheVariants.{Num, Ret, Unset}
 use Rattle.sym_spec.specs.Values.{keeps_first, keeps_second, apply, decide}
-use Rattle.match_spec.specs.Stands.{Stands, back_of}
-use Rattle.match_spec.specs.Matches.{IsReturn}
-use Rattle.simulation.specs.Ground.{Ground}
-use Rattle.simulation.proofs.Backs.{back_small}
+use Rattle.match_spec.specs.Stands.{Places, Stands, Holds, IsReturn}
 
 or_zero : (v : ℕ) → bit_or v 0 ≡ v
 or_zero v = omega (arith, or_add_and v 0, and_zero_r v)
@@ -76,65 +73,67 @@ second_kept Divu v small k = absurd (cc)
 second_kept Rem v small k = absurd (cc)
 second_kept Remu v small k = absurd (cc)
 
--- the word and the value of a register or an immediate
-pub record Holds (file : List ℕ) (plan : Plan) (v : Value) (w : ℕ) : Type 0 where
-  pub stands : Stands file plan v w
-  pub returns : (a : ℕ) → v ≡ Ret a → IsReturn a
+pub holds_num : (places : Places) (w : ℕ) → w < 2 ^ 32 → Holds places (Num w) w
+holds_num places w small = record { stands = refl; value = tt; small = small }
 
-pub holds_num : (file : List ℕ) (plan : Plan) (w : ℕ) → Holds file plan (Num w) w
-holds_num file plan w = record { stands = refl; returns = λ a e. absurd (cc) }
+pub holds_unset : (places : Places) (w : ℕ) → w < 2 ^ 32 → Holds places Unset w
+holds_unset places w small = record { stands = tt; value = tt; small = small }
 
-pub holds_unset : (file : List ℕ) (plan : Plan) (w : ℕ) → Holds file plan Unset w
-holds_unset file plan w = record { stands = tt; returns = λ a e. absurd (cc) }
-
-pub holds_ret : (file : List ℕ) (plan : Plan) (a w : ℕ) → IsReturn a → back_of file plan a ≡ w → Holds file plan (Ret a) w
-holds_ret file plan a w h e = record { stands = e; returns = λ b q. let same : a ≡ b = cc in subst IsReturn same h }
+pub holds_ret : (places : Places) (a w : ℕ) → IsReturn a → places.back a ≡ w → w < 2 ^ 32 → Holds places (Ret a) w
+holds_ret places a w h e small = record { stands = e; value = h; small = small }
 
 -- the law of operations
-pub apply_holds : (file : List ℕ) (plan : Plan) (new : List ℕ) (op : Op) (x y : Value) (v w : ℕ) → Ground file plan new
-    → Holds file plan x v → Holds file plan y w → Holds file plan (apply op x y) (computed op v w)
+pub apply_holds : (places : Places) (op : Op) (x y : Value) (v w : ℕ) → Holds places x v → Holds places y w
+    → Holds places (apply op x y) (computed op v w)
 unfolding apply
-apply_holds file plan new op (Num a) (Num b) v w g h k =
-    let first : a ≡ v = h.stands in
-    let second : b ≡ w = k.stands in
-    rw (first, second) (holds_num file plan (computed op v w))
-apply_holds file plan new op (Ret a) (Num b) v w g h k = at (keeps_first op) refl (nat_eq b 0) refl
+apply_holds places op x y v w h k = by_values x y h k
   where
-    at : (p : Bool) → keeps_first op ≡ p → (q : Bool) → nat_eq b 0 ≡ q → Holds file plan (cond (p && q) (Ret a) Unset) (computed op v w)
-    at true kept true z =
+    word : computed op v w < 2 ^ 32
+    word = computed-lt op v w h.small k.small
+
+    unset : Holds places Unset (computed op v w)
+    unset = holds_unset places (computed op v w) word
+
+    first : (a b : ℕ) → Holds places (Ret a) v → Holds places (Num b) w → (p : Bool) → keeps_first op ≡ p → (q : Bool) → nat_eq b 0 ≡ q
+        → Holds places (cond (p && q) (Ret a) Unset) (computed op v w)
+    first a b h k true kept true z =
         let second : b ≡ w = k.stands in
         let nothing : w ≡ 0 = grind (arith, nat_tests) in
-        let is : IsReturn (back_of file plan a) = back_small file plan new a g (h.returns a refl) in
-        let first : back_of file plan a ≡ v = h.stands in
-        let small : v < 2 ^ 32 = subst (λ x. x < 2 ^ 32) first is.0 in
-        rw nothing (holds_ret file plan a (computed op v 0) (h.returns a refl) (first ∙ sym (first_kept op v small kept)))
-    at true kept false z = holds_unset file plan (computed op v w)
-    at false kept q z = holds_unset file plan (computed op v w)
-apply_holds file plan new op (Num a) (Ret b) v w g h k = at (keeps_second op) refl (nat_eq a 0) refl
-  where
-    at : (p : Bool) → keeps_second op ≡ p → (q : Bool) → nat_eq a 0 ≡ q → Holds file plan (cond (p && q) (Ret b) Unset) (computed op v w)
-    at true kept true z =
+        let same : computed op v w ≡ v = rw nothing (first_kept op v h.small kept) in
+        rw same h
+    first a b h k true kept false z = unset
+    first a b h k false kept q z = unset
+
+    second : (a b : ℕ) → Holds places (Num a) v → Holds places (Ret b) w → (p : Bool) → keeps_second op ≡ p → (q : Bool) → nat_eq a 0 ≡ q
+        → Holds places (cond (p && q) (Ret b) Unset) (computed op v w)
+    second a b h k true kept true z =
         let first : a ≡ v = h.stands in
         let nothing : v ≡ 0 = grind (arith, nat_tests) in
-        let is : IsReturn (back_of file plan b) = back_small file plan new b g (k.returns b refl) in
-        let second : back_of file plan b ≡ w = k.stands in
-        let small : w < 2 ^ 32 = subst (λ x. x < 2 ^ 32) second is.0 in
-        rw nothing (holds_ret file plan b (computed op 0 w) (k.returns b refl) (second ∙ sym (second_kept op w small kept)))
-    at true kept false z = holds_unset file plan (computed op v w)
-    at false kept q z = holds_unset file plan (computed op v w)
-apply_holds file plan new op (Ret a) (Ret b) v w g h k = holds_unset file plan (computed op v w)
-apply_holds file plan new op Unset y v w g h k = holds_unset file plan (computed op v w)
-apply_holds file plan new op (Num a) Unset v w g h k = holds_unset file plan (computed op v w)
-apply_holds file plan new op (Ret a) Unset v w g h k = holds_unset file plan (computed op v w)
+        let same : computed op v w ≡ w = rw nothing (second_kept op w k.small kept) in
+        rw same k
+    second a b h k true kept false z = unset
+    second a b h k false kept q z = unset
+
+    by_values : (x y : Value) → Holds places x v → Holds places y w → Holds places (apply op x y) (computed op v w)
+    by_values (Num a) (Num b) h k =
+        let first : a ≡ v = h.stands in
+        let second : b ≡ w = k.stands in
+        rw (first, second) (holds_num places (computed op v w) word)
+    by_values (Ret a) (Num b) h k = first a b h k (keeps_first op) refl (nat_eq b 0) refl
+    by_values (Num a) (Ret b) h k = second a b h k (keeps_second op) refl (nat_eq a 0) refl
+    by_values (Ret a) (Ret b) h k = unset
+    by_values Unset y h k = unset
+    by_values (Num a) Unset h k = unset
+    by_values (Ret a) Unset h k = unset
 
 -- the law of conditions
-pub decide_holds : (file : List ℕ) (plan : Plan) (condition : Cond) (x y : Value) (v w : ℕ) (b : Bool) → Stands file plan x v → Stands file plan y w
+pub decide_holds : (places : Places) (condition : Cond) (x y : Value) (v w : ℕ) (b : Bool) → Stands places x v → Stands places y w
     → decide condition x y ≡ Some b → is_held condition v w ≡ b
 unfolding decide
-decide_holds file plan condition (Num a) (Num c) v w b h k e =
+decide_holds places condition (Num a) (Num c) v w b h k e =
     let is : is_held condition a c ≡ b = cc in
     subst (λ z. is_held condition v z ≡ b) k (subst (λ z. is_held condition z c ≡ b) h is)
-decide_holds file plan condition (Num a) (Ret c) v w b h k e = absurd (cc)
-decide_holds file plan condition (Num a) Unset v w b h k e = absurd (cc)
-decide_holds file plan condition (Ret a) y v w b h k e = absurd (cc)
-decide_holds file plan condition Unset y v w b h k e = absurd (cc)
+decide_holds places condition (Num a) (Ret c) v w b h k e = absurd (cc)
+decide_holds places condition (Num a) Unset v w b h k e = absurd (cc)
+decide_holds places condition (Ret a) y v w b h k e = absurd (cc)
+decide_holds places condition Unset y v w b h k e = absurd (cc)

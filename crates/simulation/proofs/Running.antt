@@ -1,56 +1,61 @@
 -- The whole run: from the start, by induction on the turns of the symbol machine.
-use Rattle.std.proofs.Common.{◌≡◌, ◌≢◌, ℕ, zero, suc, ◌+◌, ◌*◌, ◌/◌, ◌%◌, ◌<◌, ◌≤◌, List, [], ◌∷◌, Bool, true, false, cond, length, map, refl, ap, sym, ◌∙◌, subst, arith}
+use Rattle.std.proofs.Common.{◌≡◌, ◌≢◌, ℕ, zero, suc, ◌+◌, ◌*◌, ◌/◌, ◌%◌, ◌<◌, ◌≤◌, List, [], ◌∷◌, Bool, true, false, cond, length, map, refl, ap, sym, ◌∙◌, subst, arith, get_or, ◌^◌}
 use Rattle.std.specs.Prelude.{None, nat_eq, nat_lt, slice_index, slice_index_or}
+use Rattle.std.specs.List.{All}
+use Rattle.std.proofs.lemmas.List.Sums.{AllPass-from_list_all}
 use Rattle.std.proofs.lemmas.Bool.Decides.{nat_tests}
-use Rattle.std.proofs.Math.Nat.{mul-le-mul_left}
-use Rattle.std.proofs.lemmas.List.{get_or_past}
 use Rattle.plan_core.specs.declared.types.Plan.{Plan}
-use Rattle.plan_core.specs.Plan.{granules}
 use Rattle.machine_spec.specs.declared.Ending.{Ending}
 use Rattle.machine_spec.specs.declared.Ending.TheVariants.{Running, Exit, Illegal, Fault}
 use Rattle.machine_spec.specs.Memory.{memory_of, byte_of}
 use Rattle.machine_spec.specs.Start.{start_registers}
 use Rattle.flat_spec.specs.Machine as flat_machine
-use Rattle.flat_spec.specs.Machine.{Machine, register}
+use Rattle.flat_spec.specs.Machine.{Machine, word_read}
 use Rattle.flat_spec.specs.Runs as flat
 use Rattle.flat_spec.specs.Runs.{State}
 use Rattle.sym_spec.specs.declared.Value.{Value}
 use Rattle.sym_spec.specs.declared.Value.TheVariants.{Num, Ret, Unset}
 use Rattle.sym_spec.specs.Cells.{Bytes, Symbol, known, byte_in}
 use Rattle.sym_spec.specs.Plain.{start_byte, start_cells}
-use Rattle.sym_spec.specs.SymMachine.{SymMachine, value_of, start}
+use Rattle.sym_spec.specs.SymMachine.{SymMachine, value_read, start}
 use Rattle.sym_spec.specs.SymTurns.{turn_of, turn}
 use Rattle.sym_spec.specs.SymRuns.{SymState, step, steps, sym_run}
-use Rattle.match_spec.specs.Matches.{Matches, IsReturn}
-use Rattle.match_spec.specs.Keeps.{IsNoFault, Keeps}
-use Rattle.simulation.specs.Ground.{Ground}
-use Rattle.simulation.proofs.InMemory.{InMemory}
-use Rattle.simulation.proofs.Operations.{Holds, holds_num}
-use Rattle.simulation.proofs.Registers.{InRegisters}
-use Rattle.simulation.proofs.Stepping.{InStep}
+use Rattle.match_spec.specs.Stands.{Places, places_of, Holds}
+use Rattle.match_spec.specs.Parts.{InRegisters, InMemory}
+use Rattle.match_spec.specs.Matches.{InStep, Matches}
+use Rattle.match_spec.specs.Keeps.{IsNoFault, Keeps, turn_bound}
+use Rattle.simulation.specs.Ground.{Ground, MemoryGround}
+use Rattle.simulation.proofs.Operations.{holds_num}
+use Rattle.simulation.proofs.InputLeft.{bytes_left}
 use Rattle.site_stubs.specs.StubRuns.{state_of}
-use Rattle.simulation.proofs.Steps.{more_steps}
+use Rattle.flat_spec.proofs.Runs.{more_steps}
 use Rattle.simulation.proofs.Following.{Follows}
 use Rattle.simulation.proofs.Turning.{turn_follows}
 
 -- the registers at the start
-start_holds : (file : List ℕ) (plan : Plan) (words : List ℕ) (r : ℕ) → r < length words
-    → Holds file plan (cond (nat_eq r 0) (Num 0) (slice_index_or (map (λ w. Num w) words) r Unset)) (cond (nat_eq r 0) 0 (slice_index words r))
-start_holds file plan words r small = at (nat_eq r 0)
+start_holds : (places : Places) (words : List ℕ) (r : ℕ) → All (λ w. w < 2 ^ 32) words → r < length words
+    → Holds places (value_read (map (λ w. Num w) words) r) (word_read words r)
+start_holds places words r fit small = at (nat_eq r 0)
   where
     reads : (words : List ℕ) (r : ℕ) → r < length words → slice_index_or (map (λ w. Num w) words) r Unset ≡ Num (slice_index words r)
     reads [] r small = absurd (omega arith)
     reads (w ∷ words) zero small = refl
     reads (w ∷ words) (suc r) small = reads words r (omega arith)
 
-    at : (z : Bool) → Holds file plan (cond z (Num 0) (slice_index_or (map (λ w. Num w) words) r Unset)) (cond z 0 (slice_index words r))
-    at true = holds_num file plan 0
-    at false = rw (reads words r small) (holds_num file plan (slice_index words r))
+    at : (z : Bool) → Holds places (cond z (Num 0) (slice_index_or (map (λ w. Num w) words) r Unset)) (cond z 0 (slice_index words r))
+    at true = holds_num places 0 (omega arith)
+    at false = rw (reads words r small) (holds_num places (slice_index words r) (fit r 0 small))
 
-registers_start : (file : List ℕ) (plan : Plan) → InRegisters file plan (map (λ w. Num w) start_registers) start_registers 0
-registers_start file plan = record {
-  holds = λ r small n. start_holds file plan start_registers r small;
+start_words : All (λ w. w < 2 ^ 32) start_registers
+start_words r d small =
+    let test : nat_lt (get_or start_registers r d) (2 ^ 32) ≡ true = AllPass-from_list_all (λ w. nat_lt w (2 ^ 32)) start_registers refl r d small in
+    grind (arith, nat_tests)
+
+registers_start : (places : Places) → InRegisters places (map (λ w. Num w) start_registers) start_registers 0
+registers_start places = record {
+  holds = λ r small n. start_holds places start_registers r start_words small;
   bits_there = refl;
+  bits_small = omega arith;
   spare = refl;
   long = refl;
   sym_long = refl;
@@ -73,11 +78,12 @@ no_symbol : (file : List ℕ) (k : ℕ) (v : Value) → start_cells file k ≡ S
 unfolding start_cells
 no_symbol file k v e = cc
 
-memory_start : (file : List ℕ) (plan : Plan) (new : List ℕ) → Ground file plan new → InMemory file plan new (start_cells file) (memory_of new)
-memory_start file plan new g = record {
+memory_start : (file new : List ℕ) (places : Places) → MemoryGround file new → InMemory file new places (start_cells file) (memory_of new)
+memory_start file new places g = record {
   bytes = λ a b plain k. g.plain a plain ∙ (sym (ap (λ t. cond t (byte_of (memory_of file) a) None) plain) ∙ (sym (start_known file a) ∙ k));
   symbols = λ k v plain e. absurd (no_symbol file k v e);
   stored_returns = λ k a e. absurd (no_symbol file k (Ret a) e);
+  small = g.bytes;
   shape = refl;
   code = λ a code. refl;
   text = λ a low high. refl;
@@ -88,8 +94,8 @@ unfolding start flat_machine.start
 start_alike file plan new g = record {
   pc = g.entry;
   ending = refl;
-  registers = registers_start file plan;
-  memory = memory_start file plan new g;
+  registers = registers_start (places_of file plan);
+  memory = memory_start file new (places_of file plan) g.memory;
 }
 
 -- a fault stays a fault
@@ -107,7 +113,8 @@ fault_stays file plan input s safe = by_ending s.ending refl safe
 pub record InRun (file : List ℕ) (plan : Plan) (new input : List ℕ) (n : ℕ) (s : SymState) : Type 0 where
   pub turns : ℕ
   pub least : n ≤ turns
-  pub most : turns ≤ 7 * n
+  pub most : turns ≤ n * turn_bound plan.area
+  pub bytes : All (λ b. b < 256) s.input
   pub machine : Machine
   pub is : flat.flat_run new input turns ≡ state_of machine s.input s.output
   pub next : InStep file plan new s.machine machine
@@ -117,12 +124,13 @@ one_more : (file : List ℕ) (plan : Plan) (new input : List ℕ) (n : ℕ) (s :
 unfolding step flat.flat_run
 one_more file plan new input n s g safe h =
     let f : Follows file plan new (turn file plan s.input s.machine) h.machine s.input s.output =
-    turn_follows file plan new s.machine h.machine s.input s.output g h.next safe in
+    turn_follows file plan new s.machine h.machine s.input s.output g h.bytes h.next safe in
     let from : State = state_of (flat_machine.start new) input [] in
     record {
       turns = f.turns + h.turns;
       least = omega (arith, f.some, h.least);
-      most = omega (arith, f.few, h.most);
+      most = let more : suc n * turn_bound plan.area ≡ turn_bound plan.area + n * turn_bound plan.area = omega arith in omega (arith, f.few, h.most, more);
+      bytes = bytes_left file plan s.input s.machine h.bytes;
       machine = f.machine;
       is = more_steps f.turns h.turns from ∙ (ap (flat.steps f.turns) h.is ∙ f.is);
       next = f.next;
@@ -132,70 +140,29 @@ before : (file : List ℕ) (plan : Plan) (s : SymState) → IsNoFault (step file
 unfolding step
 before file plan s safe = fault_stays file plan s.input s.machine safe
 
-pub in_run : (file : List ℕ) (plan : Plan) (new input : List ℕ) (n : ℕ) → Ground file plan new → IsNoFault (sym_run file plan input n).machine.ending
+pub in_run : (file : List ℕ) (plan : Plan) (new input : List ℕ) (n : ℕ) → Ground file plan new → All (λ b. b < 256) input → IsNoFault (sym_run file plan input n).machine.ending
     → InRun file plan new input n (sym_run file plan input n)
 unfolding sym_run steps flat.flat_run flat.steps
-in_run file plan new input zero g safe = record {
+in_run file plan new input zero g bytes safe = record {
   turns = 0;
   least = omega arith;
   most = omega arith;
+  bytes = bytes;
   machine = flat_machine.start new;
   is = refl;
   next = start_alike file plan new g;
 }
-in_run file plan new input (suc n) g safe =
+in_run file plan new input (suc n) g bytes safe =
     one_more file plan new input n (sym_run file plan input n) g safe
-    (in_run file plan new input n g (before file plan (sym_run file plan input n) safe))
-
--- every return address in a register is one
-return_is : (file : List ℕ) (plan : Plan) (s : SymMachine) (words : List ℕ) → InRegisters file plan s.registers words s.bits
-    → (r a : ℕ) → value_of s r ≡ Ret a → IsReturn a
-return_is file plan s words h r a e = by_number (nat_lt r 32) refl (nat_eq r 4) refl
-  where
-    by_number : (t : Bool) → nat_lt r 32 ≡ t → (q : Bool) → nat_eq r 4 ≡ q → IsReturn a
-    by_number true t true q =
-        let same : r ≡ 4 = grind (arith, nat_tests) in
-        let clash : Num 0 ≡ Ret a = sym h.spare ∙ (ap (value_of s) (sym same) ∙ e) in
-        absurd (cc)
-    by_number true t false q =
-        let small : r < 32 = grind (arith, nat_tests) in
-        let other : r ≢ 4 = grind (arith, nat_tests) in
-        (h.holds r small other).returns a e
-    by_number false t q f =
-        let large : length s.registers ≤ r = grind (arith, nat_tests, h.sym_long) in
-        let nonzero : nat_eq r 0 ≡ false = grind (arith, nat_tests) in
-        let past : value_of s r ≡ Unset = rw nonzero (get_or_past s.registers r Unset large) in
-        let clash : Unset ≡ Ret a = sym past ∙ e in
-        absurd (cc)
-
-within : (n g turns : ℕ) → turns ≤ 7 * n → turns ≤ n * (16384 + 256 * g)
-within n g turns h =
-    let more : n * 7 ≤ n * (16384 + 256 * g) = mul-le-mul_left n (omega arith) in
-    omega (arith, h, more)
+    (in_run file plan new input n g bytes (before file plan (sym_run file plan input n) safe))
 
 -- the new file keeps the behaviour of its source
 pub keeps : (file : List ℕ) (plan : Plan) (new : List ℕ) → Ground file plan new → Keeps file plan new
 keeps file plan new g input bytes n safe =
-    let h : InRun file plan new input n (sym_run file plan input n) = in_run file plan new input n g safe in
+    let h : InRun file plan new input n (sym_run file plan input n) = in_run file plan new input n g bytes safe in
     record {
       turns = h.turns;
       least = h.least;
-      most = let bound : h.turns ≤ n * (16384 + 256 * granules plan.area) = within n (granules plan.area) h.turns h.most in bound;
-      state = subst (λ x. Matches file plan new (sym_run file plan input n) x) (sym h.is) (record {
-        pc = h.next.pc;
-        input = refl;
-        output = refl;
-        ending = h.next.ending;
-        registers = λ r small other. (h.next.registers.holds r small other).stands;
-        bits = h.next.registers.bits_there;
-        bytes = h.next.memory.bytes;
-        symbols = h.next.memory.symbols;
-        long = h.next.registers.long;
-        sym_long = h.next.registers.sym_long;
-        returns = return_is file plan (sym_run file plan input n).machine h.machine.registers h.next.registers;
-        stored_returns = h.next.memory.stored_returns;
-        shape = h.next.memory.shape;
-        code = h.next.memory.code;
-        text = h.next.memory.text;
-      });
+      most = h.most;
+      state = subst (λ x. Matches file plan new (sym_run file plan input n) x) (sym h.is) (record { machines = h.next; input = refl; output = refl });
     }

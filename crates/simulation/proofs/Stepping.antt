@@ -21,28 +21,20 @@ use Rattle.sym_spec.specs.Cells.{Cells, put_all, store_value, bytes_left}
 use Rattle.sym_spec.specs.Plain.{is_plain_store}
 use Rattle.sym_spec.specs.SymMachine.{SymMachine, gives, passes, stores}
 use Rattle.sym_spec.specs.SymTurns.{stored}
-use Rattle.match_spec.specs.Stands.{Stands, back_of}
-use Rattle.match_spec.specs.Matches.{IsReturn}
+use Rattle.match_spec.specs.Stands.{Places, places_of, Stands, Holds}
+use Rattle.match_spec.specs.Parts.{InMemory}
+use Rattle.match_spec.specs.Matches.{InStep}
 use Rattle.match_spec.specs.Keeps.{IsNoFault}
-use Rattle.simulation.specs.Ground.{Ground}
-use Rattle.simulation.proofs.InMemory.{InMemory}
-use Rattle.simulation.proofs.Storing.{put_pieces, put_symbol, alike_known, alike_unset, length-low_bytes}
-use Rattle.simulation.proofs.Backs.{back_small}
-use Rattle.simulation.proofs.Operations.{Holds}
-use Rattle.simulation.proofs.Registers.{InRegisters, put_register}
-
-pub record InStep (file : List ℕ) (plan : Plan) (new : List ℕ) (s : SymMachine) (m : Machine) : Type 0 where
-  pub pc : m.pc ≡ s.pc
-  pub ending : m.ending ≡ s.ending
-  pub registers : InRegisters file plan s.registers m.registers s.bits
-  pub memory : InMemory file plan new s.cells m.memory
+use Rattle.simulation.specs.Ground.{Ground, MemoryGround}
+use Rattle.simulation.proofs.Storing.{put_pieces, put_symbol, alike_known, alike_unset, length-low_bytes, low_are_bytes}
+use Rattle.simulation.proofs.Registers.{put_register}
 
 pub gives_alike : (file : List ℕ) (plan : Plan) (new : List ℕ) (s : SymMachine) (m : Machine) (r : ℕ) (v : Value) (w : ℕ)
-    → InStep file plan new s m → r < 32 → r ≢ 4 → Holds file plan v w → InStep file plan new (gives r v s) (flat.gives r w m)
+    → InStep file plan new s m → r < 32 → r ≢ 4 → Holds (places_of file plan) v w → InStep file plan new (gives r v s) (flat.gives r w m)
 gives_alike file plan new s m r v w h small other holds = record {
   pc = ap behind h.pc;
   ending = h.ending;
-  registers = put_register file plan s.registers m.registers s.bits r v w h.registers small other holds;
+  registers = put_register (places_of file plan) s.registers m.registers s.bits r v w h.registers small other holds;
   memory = h.memory;
 }
 
@@ -51,59 +43,56 @@ pub passes_alike : (file : List ℕ) (plan : Plan) (new : List ℕ) (s : SymMach
 passes_alike file plan new s m h = record { pc = ap behind h.pc; ending = h.ending; registers = h.registers; memory = h.memory }
 
 -- what can be stored to on the symbol machine can be stored to on the flat machine
-pub can_store_alike : (file : List ℕ) (plan : Plan) (new : List ℕ) (memory : List Range) (a n : ℕ) → Ground file plan new
+pub can_store_alike : (file new : List ℕ) (memory : List Range) (a n : ℕ) → MemoryGround file new
     → map shape_of memory ≡ map shape_of (memory_of new) → all_from (is_plain_store file) a n ≡ true → can_store memory a n ≡ true
-can_store_alike file plan new memory a n g shape h =
+can_store_alike file new memory a n g shape h =
     all_pass _ a n (λ k low high. same_writable memory (memory_of new) k shape ∙ g.storable k (each_passes (is_plain_store file) a n h k low high))
 
 -- a store of a value on both machines keeps memory in step
-pub value_stored : (file : List ℕ) (plan : Plan) (new : List ℕ) (cells : Cells) (memory : List Range) (width : Width) (a : ℕ) (v : Value) (w : ℕ)
-    → Ground file plan new → InMemory file plan new cells memory → (a % size_of width == 0) ≡ true → all_from (is_plain_store file) a (size_of width) ≡ true
-    → Holds file plan v w → InMemory file plan new (store_value width a v cells) (put_bytes memory a (low_bytes (size_of width) w))
-value_stored file plan new cells memory width a (Num v) w g h aligned store holds = known width aligned store
+pub value_stored : (file new : List ℕ) (places : Places) (cells : Cells) (memory : List Range) (width : Width) (a : ℕ) (v : Value) (w : ℕ)
+    → MemoryGround file new → InMemory file new places cells memory → (a % size_of width == 0) ≡ true → all_from (is_plain_store file) a (size_of width) ≡ true
+    → Holds places v w → InMemory file new places (store_value width a v cells) (put_bytes memory a (low_bytes (size_of width) w))
+value_stored file new places cells memory width a (Num v) w g h aligned store holds = known width aligned store
   where
     pieces : (width : Width) → all_from (is_plain_store file) a (size_of width) ≡ true
-        → InMemory file plan new (put_all a (bytes_left (size_of width) (Num v)) cells) (put_bytes memory a (low_bytes (size_of width) v))
+        → InMemory file new places (put_all a (bytes_left (size_of width) (Num v)) cells) (put_bytes memory a (low_bytes (size_of width) v))
     pieces width store =
-        put_pieces file plan new cells memory a (map (λ b. Some b) (low_bytes (size_of width) v)) (low_bytes (size_of width) v) g h
-        (rw (length-low_bytes (size_of width) v) store) (alike_known (low_bytes (size_of width) v))
+        put_pieces file new places cells memory a (map (λ b. Some b) (low_bytes (size_of width) v)) (low_bytes (size_of width) v) g h
+        (rw (length-low_bytes (size_of width) v) store) (low_are_bytes (size_of width) v) (alike_known (low_bytes (size_of width) v))
 
     known : (width : Width) → (a % size_of width == 0) ≡ true → all_from (is_plain_store file) a (size_of width) ≡ true
-        → InMemory file plan new (store_value width a (Num v) cells) (put_bytes memory a (low_bytes (size_of width) w))
-    known Byte aligned store = subst (λ x. InMemory file plan new (put_all a (bytes_left 1 (Num v)) cells) (put_bytes memory a (low_bytes 1 x))) holds.stands (pieces Byte store)
-    known Half aligned store = subst (λ x. InMemory file plan new (put_all a (bytes_left 2 (Num v)) cells) (put_bytes memory a (low_bytes 2 x))) holds.stands (pieces Half store)
-    known Word aligned store = subst (λ x. InMemory file plan new (put_all a (bytes_left 4 (Num v)) cells) (put_bytes memory a (low_bytes 4 x))) holds.stands (pieces Word store)
-    known ByteU aligned store = subst (λ x. InMemory file plan new (put_all a (bytes_left 1 (Num v)) cells) (put_bytes memory a (low_bytes 1 x))) holds.stands (pieces ByteU store)
-    known HalfU aligned store = subst (λ x. InMemory file plan new (put_all a (bytes_left 2 (Num v)) cells) (put_bytes memory a (low_bytes 2 x))) holds.stands (pieces HalfU store)
-value_stored file plan new cells memory width a Unset w g h aligned store holds = unset width store
+        → InMemory file new places (store_value width a (Num v) cells) (put_bytes memory a (low_bytes (size_of width) w))
+    known Byte aligned store = subst (λ x. InMemory file new places (put_all a (bytes_left 1 (Num v)) cells) (put_bytes memory a (low_bytes 1 x))) holds.stands (pieces Byte store)
+    known Half aligned store = subst (λ x. InMemory file new places (put_all a (bytes_left 2 (Num v)) cells) (put_bytes memory a (low_bytes 2 x))) holds.stands (pieces Half store)
+    known Word aligned store = subst (λ x. InMemory file new places (put_all a (bytes_left 4 (Num v)) cells) (put_bytes memory a (low_bytes 4 x))) holds.stands (pieces Word store)
+    known ByteU aligned store = subst (λ x. InMemory file new places (put_all a (bytes_left 1 (Num v)) cells) (put_bytes memory a (low_bytes 1 x))) holds.stands (pieces ByteU store)
+    known HalfU aligned store = subst (λ x. InMemory file new places (put_all a (bytes_left 2 (Num v)) cells) (put_bytes memory a (low_bytes 2 x))) holds.stands (pieces HalfU store)
+value_stored file new places cells memory width a Unset w g h aligned store holds = unset width store
   where
-    pieces : (n : ℕ) → all_from (is_plain_store file) a n ≡ true → InMemory file plan new (put_all a (replicate n None) cells) (put_bytes memory a (low_bytes n w))
-    pieces n store = put_pieces file plan new cells memory a (replicate n None) (low_bytes n w) g h (rw (length-low_bytes n w) store) (alike_unset n w)
+    pieces : (n : ℕ) → all_from (is_plain_store file) a n ≡ true → InMemory file new places (put_all a (replicate n None) cells) (put_bytes memory a (low_bytes n w))
+    pieces n store = put_pieces file new places cells memory a (replicate n None) (low_bytes n w) g h (rw (length-low_bytes n w) store) (low_are_bytes n w) (alike_unset n w)
 
     unset : (width : Width) → all_from (is_plain_store file) a (size_of width) ≡ true
-        → InMemory file plan new (store_value width a Unset cells) (put_bytes memory a (low_bytes (size_of width) w))
+        → InMemory file new places (store_value width a Unset cells) (put_bytes memory a (low_bytes (size_of width) w))
     unset Byte store = pieces 1 store
     unset Half store = pieces 2 store
     unset Word store = pieces 4 store
     unset ByteU store = pieces 1 store
     unset HalfU store = pieces 2 store
-value_stored file plan new cells memory width a (Ret back) w g h aligned store holds = symbol width aligned store
+value_stored file new places cells memory width a (Ret back) w g h aligned store holds = symbol width aligned store
   where
-    pieces : (n : ℕ) → all_from (is_plain_store file) a n ≡ true → InMemory file plan new (put_all a (replicate n None) cells) (put_bytes memory a (low_bytes n w))
-    pieces n store = put_pieces file plan new cells memory a (replicate n None) (low_bytes n w) g h (rw (length-low_bytes n w) store) (alike_unset n w)
+    pieces : (n : ℕ) → all_from (is_plain_store file) a n ≡ true → InMemory file new places (put_all a (replicate n None) cells) (put_bytes memory a (low_bytes n w))
+    pieces n store = put_pieces file new places cells memory a (replicate n None) (low_bytes n w) g h (rw (length-low_bytes n w) store) (low_are_bytes n w) (alike_unset n w)
 
     symbol : (width : Width) → (a % size_of width == 0) ≡ true → all_from (is_plain_store file) a (size_of width) ≡ true
-        → InMemory file plan new (store_value width a (Ret back) cells) (put_bytes memory a (low_bytes (size_of width) w))
+        → InMemory file new places (store_value width a (Ret back) cells) (put_bytes memory a (low_bytes (size_of width) w))
     symbol Byte aligned store = pieces 1 store
     symbol Half aligned store = pieces 2 store
     symbol ByteU aligned store = pieces 1 store
     symbol HalfU aligned store = pieces 2 store
     symbol Word aligned store =
-        let is : IsReturn (back_of file plan back) = back_small file plan new back g (holds.returns back refl) in
-        let stands : back_of file plan back ≡ w = holds.stands in
-        let small : w < 2 ^ 32 = subst (λ x. x < 2 ^ 32) stands is.0 in
         let even : a % 4 ≡ 0 = grind (arith, nat_tests) in
-        put_symbol file plan new cells memory a back w g h even store (holds.returns back refl) small stands
+        put_symbol file new places cells memory a back w g h even store holds
 
 flat_store : (memory : List Range) (width : Width) (a x : ℕ) → (a % size_of width == 0) ≡ true → can_store memory a (size_of width) ≡ true
     → flat_memory.stored memory width a x ≡ Some (put_bytes memory a (low_bytes (size_of width) x))
@@ -112,7 +101,7 @@ flat_store memory width a x aligned store = rw (aligned, store) refl
 
 -- the store of an instruction
 pub stores_alike : (file : List ℕ) (plan : Plan) (new : List ℕ) (s : SymMachine) (m : Machine) (width : Width) (at v : Value) (w x : ℕ)
-    → Ground file plan new → InStep file plan new s m → s.ending ≡ Running → Stands file plan at w → Holds file plan v x
+    → Ground file plan new → InStep file plan new s m → s.ending ≡ Running → Stands (places_of file plan) at w → Holds (places_of file plan) v x
     → IsNoFault (stores (stored file s.cells width at v) s).ending
     → InStep file plan new (stores (stored file s.cells width at v) s) (flat.stores (flat_memory.stored m.memory width w x) m)
 stores_alike file plan new s m width (Num a) v w x g h run stands holds safe = by_test ((a % size_of width == 0) && all_from (is_plain_store file) a (size_of width)) refl safe
@@ -125,12 +114,12 @@ stores_alike file plan new s m width (Num a) v w x g h run stands holds safe = b
         let store : all_from (is_plain_store file) a (size_of width) ≡ true = and_second (a % size_of width == 0) (all_from (is_plain_store file) a (size_of width)) q in
         let there : flat_memory.stored m.memory width w x ≡ Some (put_bytes m.memory a (low_bytes (size_of width) x)) =
         subst (λ z. flat_memory.stored m.memory width z x ≡ Some (put_bytes m.memory a (low_bytes (size_of width) x))) stands
-        (flat_store m.memory width a x aligned (can_store_alike file plan new m.memory a (size_of width) g h.memory.shape store)) in
+        (flat_store m.memory width a x aligned (can_store_alike file new m.memory a (size_of width) g.memory h.memory.shape store)) in
         rw there (record {
           pc = ap behind h.pc;
           ending = h.ending;
           registers = h.registers;
-          memory = value_stored file plan new s.cells m.memory width a v x g h.memory aligned store holds;
+          memory = value_stored file new (places_of file plan) s.cells m.memory width a v x g.memory h.memory aligned store holds;
         })
     by_test false q safe = absurd safe
 stores_alike file plan new s m width (Ret r) v w x g h run stands holds safe = absurd safe

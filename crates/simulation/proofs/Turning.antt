@@ -1,21 +1,24 @@
 -- A turn of the symbol machine at each kind of place: at a chosen site, at a jump back, elsewhere.
 use Rattle.std.proofs.Common.{◌≡◌, ◌≢◌, ℕ, ◌+◌, ◌-◌, ◌*◌, ◌/◌, ◌%◌, ◌^◌, ◌<◌, ◌≤◌, List, Bool, true, false, cond, length, length-set, refl, ap, sym, ◌∙◌, subst, arith, get_or, append-nil}
 use Rattle.std.specs.Prelude.{Option, Some, None, is_some, IsSome, nat_eq, ◌&&◌, ◌||◌, slice_set, slice_get, slice_index, option_and_then, bit_and, bit_or}
+use Rattle.std.specs.List.{All}
+use Rattle.std.specs.Int.Bits.{and_lt, or_lt}
 use Rattle.std.proofs.lemmas.Bool.Decides.{nat_tests}
 use Rattle.std.proofs.lemmas.Option.{slice_get-get_or, slice_get_within, get_or_from_slice_get}
 use Rattle.rv_isa.specs.declared.Instr.{Instr}
 use Rattle.rv_isa.specs.declared.Instr.TheVariants.{Lui, Auipc, Jal, Jalr, Branch, Load, Store, OpImm, Reg, Fence, Ecall, Ebreak}
-use Rattle.rv_isa.specs.Encoded.{NamesRegisters, encoded}
+use Rattle.rv_isa.specs.Encoded.{IsExtended, IsFormed, encoded}
 use Rattle.rv_isa.specs.Table.{decoded}
-use Rattle.rv_isa.proofs.RoundTrip.{decoded-encoded, formed_decoded, registers_formed}
+use Rattle.rv_isa.proofs.RoundTrip.{decoded-encoded, formed_decoded}
 use Rattle.elf_spec.specs.Code.{code_word}
 use Rattle.plan_core.specs.declared.types.Plan.{Plan}
 use Rattle.plan_core.specs.declared.types.PlanLine.{PlanLine}
 use Rattle.site_spec.specs.declared.Site.{Site}
-use Rattle.site_spec.specs.Places.{plus, minus, text_at, stub_at, reaches}
+use Rattle.rv_isa.specs.Addresses.{plus, minus}
+use Rattle.site_spec.specs.Places.{text_at, stub_at, reaches}
 use Rattle.site_spec.specs.Plans.{IsInReach}
 use Rattle.site_spec.specs.Sites.{site_at}
-use Rattle.site_spec.specs.Stubs.{stub_words}
+use Rattle.new_file_spec.specs.Stubs.{stub_words}
 use Rattle.machine_spec.specs.declared.Ending.{Ending}
 use Rattle.machine_spec.specs.declared.Ending.TheVariants.{Running, Exit, Illegal, Fault}
 use Rattle.machine_spec.specs.declared.FaultKind.TheVariants.{F3}
@@ -34,56 +37,57 @@ use Rattle.sym_spec.specs.Cells.{Cells}
 use Rattle.sym_spec.specs.SymMachine.{SymMachine, value_of, jumps, goes_back, ends, faults, links, line_at, clear_bit, back_index}
 use Rattle.sym_spec.specs.SymCalls.{quiet, calls}
 use Rattle.sym_spec.specs.SymTurns.{Here, Nothing, Pair, Code, here, runs_here, executes, acts, jumps_to, turn_of, turn}
-use Rattle.match_spec.specs.Stands.{back_of}
-use Rattle.match_spec.specs.Matches.{IsReturn, text_room}
+use Rattle.match_spec.specs.Stands.{back_of, Places, places_of, Holds, IsReturn}
+use Rattle.match_spec.specs.Parts.{InMemory, text_room}
+use Rattle.match_spec.specs.Matches.{InStep}
 use Rattle.match_spec.specs.Keeps.{IsNoFault}
-use Rattle.simulation.specs.Ground.{Ground, IsJalSite}
-use Rattle.simulation.proofs.InMemory.{InMemory}
+use Rattle.simulation.specs.Ground.{Ground, IsJalSite, IsUnchosen}
 use Rattle.simulation.proofs.Backs.{BackLine, back_line, LineAt, line_some, index_is}
-use Rattle.simulation.proofs.Operations.{Holds, holds_unset, holds_ret}
+use Rattle.simulation.proofs.Operations.{holds_unset, holds_ret}
 use Rattle.simulation.proofs.Registers.{changed_registers, zero_unread}
-use Rattle.simulation.proofs.Stepping.{InStep}
 use Rattle.simulation.proofs.Jumping.{behind_code, jumps_alike, flat_back, back_alike, target_aligned}
 use Rattle.simulation.proofs.Calling.{TurnsAlike, quiet_alike, ends_alike, calls_alike}
 use Rattle.simulation.proofs.Acting.{IsPlainInstr, acts_alike, neither, unequal}
 use Rattle.site_stubs.specs.StubRuns.{CallsFrom, GoesBack, Reaches, RunsAt, StandAt, state_of}
+use Rattle.site_stubs.proofs.Turns.{bit_small}
 use Rattle.site_stubs.proofs.Steps.{step_quiet, turn_is}
 use Rattle.site_stubs.proofs.StubLaw.{calls as stub_calls, returns as stub_returns}
-use Rattle.simulation.proofs.Steps.{more_steps, one_step}
-use Rattle.simulation.proofs.StubJump.{jal_turn, jump_formed}
-use Rattle.simulation.proofs.Following.{Follows, follows_one, fetch_code, fetch_text, here_code, no_pair, plain_turn, plain_safe}
+use Rattle.flat_spec.proofs.Runs.{more_steps, one_step}
+use Rattle.new_file_spec.proofs.Jumps.{jump_formed}
+use Rattle.simulation.proofs.StubJump.{jal_turn}
+use Rattle.simulation.proofs.Following.{Follows, IsCodeHere, follows_one, fetch_code, fetch_text, here_code, no_pair, plain_turn, plain_safe}
 
 stub_room : (file : List ℕ) (plan : Plan) (new : List ℕ) (k : ℕ) → Ground file plan new → k < length plan.sites
     → (text_at file ≤ stub_at (text_at file) k) × (stub_at (text_at file) k + 44 ≤ text_at file + text_room) × (stub_at (text_at file) k + 44 < 2 ^ 31) × (stub_at (text_at file) k % 4 ≡ 0)
 stub_room file plan new k g below =
-    let low : text_at file + text_room ≤ 0x7FF00000 = g.low_text in
+    let low : text_at file + text_room ≤ 0x7FF00000 = g.memory.low_text in
     let few : length plan.sites ≤ 32 = g.few in
     let aligned : text_at file % 4 ≡ 0 = g.aligned_text in
     (omega arith, omega (arith, few, below), omega (arith, low, few, below), omega (arith, aligned))
 
 -- a word of a stub is fetched
-stub_word : (file : List ℕ) (plan : Plan) (new : List ℕ) (cells : Cells) (memory : List Range) (k i w : ℕ) (line : PlanLine) (s : Site) → Ground file plan new
-    → InMemory file plan new cells memory → slice_get plan.sites k ≡ Some line → site_at file line.addr ≡ Some s → i < 11
+stub_word : (file : List ℕ) (plan : Plan) (new : List ℕ) (places : Places) (cells : Cells) (memory : List Range) (k i w : ℕ) (line : PlanLine) (s : Site) → Ground file plan new
+    → InMemory file new places cells memory → slice_get plan.sites k ≡ Some line → site_at file line.addr ≡ Some s → i < 11
     → slice_get (stub_words (stub_at (text_at file) k) line.bit s.target s.back) i ≡ Some w → fetched memory (stub_at (text_at file) k + 4 * i) ≡ Some w
-stub_word file plan new cells memory k i w line s g h there site small e =
+stub_word file plan new places cells memory k i w line s g h there site small e =
     let room : (text_at file ≤ stub_at (text_at file) k) × (stub_at (text_at file) k + 44 ≤ text_at file + text_room) × (stub_at (text_at file) k + 44 < 2 ^ 31) × (stub_at (text_at file) k % 4 ≡ 0)
     = stub_room file plan new k g (slice_get_within plan.sites k line there) in
-    fetch_text file plan new cells memory (stub_at (text_at file) k + 4 * i) g h (omega (arith, room.0)) (omega (arith, room.1, small)) ∙ g.stub k i w line s there site e
+    fetch_text file new places cells memory (stub_at (text_at file) k + 4 * i) h (omega (arith, room.0)) (omega (arith, room.1, small)) ∙ g.stub k i w line s there site e
 
 -- a word below 2^32 is itself as an address
 place_is : (at n : ℕ) → at + n < 2 ^ 32 → at + n ≡ plus at n
 place_is at n small = omega (arith, small)
 
 -- the stub of a site line stands in memory
-stub_stands : (file : List ℕ) (plan : Plan) (new : List ℕ) (cells : Cells) (memory : List Range) (k : ℕ) (line : PlanLine) (s : Site) → Ground file plan new
-    → InMemory file plan new cells memory → slice_get plan.sites k ≡ Some line → site_at file line.addr ≡ Some s
+stub_stands : (file : List ℕ) (plan : Plan) (new : List ℕ) (places : Places) (cells : Cells) (memory : List Range) (k : ℕ) (line : PlanLine) (s : Site) → Ground file plan new
+    → InMemory file new places cells memory → slice_get plan.sites k ≡ Some line → site_at file line.addr ≡ Some s
     → StandAt memory (stub_at (text_at file) k) (stub_words (stub_at (text_at file) k) line.bit s.target s.back)
-stub_stands file plan new cells memory k line s g h there site i below =
+stub_stands file plan new places cells memory k line s g h there site i below =
     let at : ℕ = stub_at (text_at file) k in
     let room : (text_at file ≤ at) × (at + 44 ≤ text_at file + text_room) × (at + 44 < 2 ^ 31) × (at % 4 ≡ 0) = stub_room file plan new k g (slice_get_within plan.sites k line there) in
     let small : i < 11 = below in
     subst (λ a. fetched memory a ≡ Some (slice_index (stub_words at line.bit s.target s.back) i)) (place_is at (4 * i) (omega (arith, room.2, small)))
-    (stub_word file plan new cells memory k i (slice_index (stub_words at line.bit s.target s.back) i) line s g h there site small
+    (stub_word file plan new places cells memory k i (slice_index (stub_words at line.bit s.target s.back) i) line s g h there site small
     (slice_get-get_or (stub_words at line.bit s.target s.back) i 0 below))
 
 -- the line of a plan has a bit below 32
@@ -107,7 +111,7 @@ chosen_back file plan new s m back k input output g h run is e =
       ending = h.ending ∙ run;
       pc = place_is at 20 (omega (arith, room.2));
       registers = length-set m.registers 0 (behind m.pc) ∙ h.registers.long;
-      words = stub_stands file plan new s.cells m.memory k line.line line.site g h.memory line.there line.at;
+      words = stub_stands file plan new (places_of file plan) s.cells m.memory k line.line line.site g h.memory line.there line.at;
     } in
     let to : line.site.back ≡ back = line.back in
     let goes : GoesBack line.line.bit line.site.back from input output =
@@ -116,6 +120,14 @@ chosen_back file plan new s m back k input output g h run is e =
     rw (e, line.there)
     (subst (λ b. Reaches 6 from input output b (bit_and s.bits (2 ^ 32 - 1 - 2 ^ line.line.bit))) to
     (subst (λ w. Reaches 6 from input output line.site.back (bit_and w (2 ^ 32 - 1 - 2 ^ line.line.bit))) bits goes.reaches))
+
+-- the bits stay a word where one is cleared
+cleared_small : (lines : List PlanLine) (o : Option ℕ) (bits : ℕ) → bits < 2 ^ 32 → clear_bit (option_and_then (slice_get lines) o) bits < 2 ^ 32
+cleared_small lines o bits small = at (option_and_then (slice_get lines) o)
+  where
+    at : (p : Option PlanLine) → clear_bit p bits < 2 ^ 32
+    at (Some line) = and_lt 32 bits (2 ^ 32 - 1 - 2 ^ line.bit) small (omega arith)
+    at None = small
 
 -- a jump back to a return address
 back_follows : (file : List ℕ) (plan : Plan) (new : List ℕ) (s : SymMachine) (m : Machine) (back : ℕ) (input output : List ℕ) → Ground file plan new
@@ -142,22 +154,23 @@ back_follows file plan new s m back input output g h run is turn = by_index (bac
           next = record {
             pc = ends.pc;
             ending = ends.ending ∙ sym run;
-            registers = changed_registers file plan s.registers m.registers ends.next.registers s.bits (register ends.next 1) bits Unset h.registers ends.registers
-                refl ends.bits (λ j a b. ends.others j a b ∙ zero_unread m.registers (behind m.pc) j) (holds_unset file plan (register ends.next 1));
-            memory = subst (λ x. InMemory file plan new s.cells x) (sym ends.memory) h.memory;
+            registers = changed_registers (places_of file plan) s.registers m.registers ends.next.registers s.bits (register ends.next 1) bits Unset h.registers ends.registers
+                refl ends.bits (λ j a b. ends.others j a b ∙ zero_unread m.registers (behind m.pc) j)
+                (holds_unset (places_of file plan) (register ends.next 1) ends.link_small) (cleared_small plan.sites (back_index file plan.sites back) s.bits h.registers.bits_small);
+            memory = subst (λ x. InMemory file new (places_of file plan) s.cells x) (sym ends.memory) h.memory;
           };
         }
 
 -- a jump to a register
 register_jump : (file : List ℕ) (plan : Plan) (new : List ℕ) (s : SymMachine) (m : Machine) (w rd rs1 imm : ℕ) (input output : List ℕ) → Ground file plan new
-    → InStep file plan new s m → s.ending ≡ Running → code_word file s.pc ≡ Some w → line_at plan.sites s.pc ≡ None → rd < 32 → rd ≢ 4 → rs1 < 32 → rs1 ≢ 4
+    → InStep file plan new s m → s.ending ≡ Running → code_word file s.pc ≡ Some w → IsUnchosen file plan s.pc → rd < 32 → rd ≢ 4 → rs1 < 32 → rs1 ≢ 4
     → flat.turn input m ≡ flat_calls.quiet input (flat_machine.jumps rd (plus (register m rs1) imm / 2 * 2) m)
     → IsNoFault (jumps_to file plan rd imm (value_of s rs1) s).ending
     → Follows file plan new (quiet input (jumps_to file plan rd imm (value_of s rs1) s)) m input output
 register_jump file plan new s m w rd rs1 imm input output g h run code none small other low apart turn safe =
     by_value (value_of s rs1) (h.registers.holds rs1 low apart) safe
   where
-    by_value : (v : Value) → Holds file plan v (register m rs1) → IsNoFault (jumps_to file plan rd imm v s).ending
+    by_value : (v : Value) → Holds (places_of file plan) v (register m rs1) → IsNoFault (jumps_to file plan rd imm v s).ending
         → Follows file plan new (quiet input (jumps_to file plan rd imm v s)) m input output
     by_value (Num v) holds safe =
         let same : v ≡ register m rs1 = holds.stands in
@@ -173,7 +186,7 @@ register_jump file plan new s m w rd rs1 imm input output g h run code none smal
         by_test true e true f safe =
             let zero_rd : rd ≡ 0 = grind (arith, nat_tests) in
             let zero_imm : imm ≡ 0 = grind (arith, nat_tests) in
-            let is : IsReturn back = holds.returns back refl in
+            let is : IsReturn back = holds.value in
             let stands : back_of file plan back ≡ register m rs1 = holds.stands in
             back_follows file plan new s m back input output g h run is
             (turn ∙ ap (flat_calls.quiet input) (ap (λ r. flat_machine.jumps r (plus (register m rs1) imm / 2 * 2) m) zero_rd
@@ -183,26 +196,26 @@ register_jump file plan new s m w rd rs1 imm input output g h run code none smal
         by_test false e q f safe = absurd safe
 
 -- an instruction at an address that no site line names
-unchosen : (file : List ℕ) (plan : Plan) (new : List ℕ) (s : SymMachine) (m : Machine) (w : ℕ) (input output : List ℕ) → Ground file plan new
-    → InStep file plan new s m → s.ending ≡ Running → code_word file s.pc ≡ Some w → line_at plan.sites s.pc ≡ None
+unchosen : (file : List ℕ) (plan : Plan) (new : List ℕ) (s : SymMachine) (m : Machine) (w : ℕ) (input output : List ℕ) → Ground file plan new → All (λ b. b < 256) input
+    → InStep file plan new s m → s.ending ≡ Running → code_word file s.pc ≡ Some w → IsUnchosen file plan s.pc
     → IsNoFault (executes file plan input (decoded w) s).next.ending → Follows file plan new (executes file plan input (decoded w) s) m input output
 unfolding acts flat.acts
-unchosen file plan new s m w input output g h run code none safe = by_instr (decoded w) refl safe
+unchosen file plan new s m w input output g bytes h run code none safe = by_instr (decoded w) refl safe
   where
     word : fetched m.memory m.pc ≡ Some w
-    word = ap (fetched m.memory) h.pc ∙ (fetch_code file plan new s.cells m.memory s.pc w g h.memory code ∙ g.code s.pc w code none)
+    word = ap (fetched m.memory) h.pc ∙ (fetch_code file plan new (places_of file plan) s.cells m.memory s.pc w g h.memory code ∙ g.code s.pc w code none)
 
     turn : (o : Option Instr) → decoded w ≡ o → flat.turn input m ≡ flat.executes input o m
     turn o e = turn_is input m w o (h.ending ∙ run) word e
 
-    registers : (i : Instr) → decoded w ≡ Some i → NamesRegisters i
-    registers i e = registers_formed i (formed_decoded w (g.words s.pc w code) i e)
+    formed : (i : Instr) → decoded w ≡ Some i → IsFormed i
+    formed i e = formed_decoded w (g.words s.pc w code) i e
 
     plain : (i : Instr) → decoded w ≡ Some i → IsPlainInstr i → IsNoFault (executes file plan input (Some i) s).next.ending
         → Follows file plan new (executes file plan input (Some i) s) m input output
     plain i e p safe = follows_one file plan new (executes file plan input (Some i) s) m input output
         (rw (turn (Some i) e) (plain_turn file plan new input s m i p
-        (acts_alike file plan new s m w i g h run code none (g.names s.pc w i code e) (registers i e) p (plain_safe file plan input s i p safe))))
+        (acts_alike file plan new s m w i g h run code none (g.names s.pc w i code e) (formed i e) p (plain_safe file plan input s i p safe))))
 
     by_instr : (o : Option Instr) → decoded w ≡ o → IsNoFault (executes file plan input o s).next.ending
         → Follows file plan new (executes file plan input o s) m input output
@@ -210,9 +223,9 @@ unchosen file plan new s m w input output g h run code none safe = by_instr (dec
         (rw (turn None e) (subst (λ x. TurnsAlike file plan new (quiet input (ends (Illegal s.pc) s)) (flat_calls.quiet input (flat_machine.ends (Illegal x) m))) (sym h.pc)
         (quiet_alike file plan new input (ends (Illegal s.pc) s) (flat_machine.ends (Illegal s.pc) m) (ends_alike file plan new s m (Illegal s.pc) h))))
     by_instr (Some Ecall) e safe = follows_one file plan new (calls file input s) m input output
-        (rw (turn (Some Ecall) e) (calls_alike file plan new input s m g h safe))
+        (rw (turn (Some Ecall) e) (calls_alike file plan new input s m g bytes h safe))
     by_instr (Some (Jalr rd rs1 imm)) e safe =
-        let r : (rd < 32) × (rs1 < 32) = registers (Jalr rd rs1 imm) e in
+        let r : (rd < 32) × (rs1 < 32) × IsExtended 12 imm = formed (Jalr rd rs1 imm) e in
         let n : (nat_eq rd 4 || nat_eq rs1 4) ≡ false = g.names s.pc w (Jalr rd rs1 imm) code e in
         let others : (nat_eq rd 4 ≡ false) × (nat_eq rs1 4 ≡ false) = neither (nat_eq rd 4) (nat_eq rs1 4) n in
         register_jump file plan new s m w rd rs1 imm input output g h run code none r.0 (unequal rd 4 others.0) r.1 (unequal rs1 4 others.1)
@@ -257,23 +270,23 @@ chosen_call file plan new s m w line site input output g h run code at named fou
         let target : site.target ≡ plus s.pc jal.imm = jal.target in
         let aligned : plus s.pc jal.imm % 4 ≡ 0 = target_aligned file plan new (plus s.pc jal.imm) g e in
         let low : s.pc + 4 ≤ text_at file = g.low_code s.pc w code in
-        let text : text_at file + text_room ≤ 0x7FF00000 = g.low_text in
+        let text : text_at file + text_room ≤ 0x7FF00000 = g.memory.low_text in
         let reach : reaches line.addr stub ≡ true = subst (λ o. IsInReach file o number) at.there (g.fits.reach number) site here jal.pair in
         let reach_here : reaches s.pc stub ≡ true = subst (λ x. reaches x stub ≡ true) at.addr reach in
         let jump : fetched m.memory s.pc ≡ Some (encoded (Jal 0 (minus stub s.pc))) =
-        fetch_code file plan new s.cells m.memory s.pc w g h.memory code
+        fetch_code file plan new (places_of file plan) s.cells m.memory s.pc w g h.memory code
         ∙ subst (λ x. fetched (memory_of new) x ≡ Some (encoded (Jal 0 (minus stub x)))) at.addr (g.jump number line at.there) in
         let first : Machine = record m { registers = slice_set m.registers 0 (behind m.pc); pc = stub } in
         let turn : flat.turn input m ≡ flat_calls.quiet input first =
         turn_is input m (encoded (Jal 0 (minus stub s.pc))) (Some (Jal 0 (minus stub s.pc))) (h.ending ∙ run) (ap (fetched m.memory) h.pc ∙ jump)
-        (decoded-encoded (Jal 0 (minus stub s.pc)) (jump_formed s.pc stub (omega (arith, low, text)) (omega (arith, room.2)) (g.aligned s.pc w code) room.3 reach_here))
+        (decoded-encoded (Jal 0 (minus stub s.pc)) (jump_formed stub s.pc (omega (arith, room.2)) (g.aligned s.pc w code) room.3 reach_here))
         ∙ jal_turn input m s.pc stub h.pc (omega (arith, low, text)) (omega (arith, room.2)) room.3 in
         let one : steps 1 (state_of m input output) ≡ state_of first input output = one_step (state_of m input output) ∙ step_quiet input output m first turn in
         let ready : RunsAt first stub stub (stub_words stub line.bit site.target site.back) = record {
           ending = h.ending ∙ run;
           pc = refl;
           registers = length-set m.registers 0 (behind m.pc) ∙ h.registers.long;
-          words = stub_stands file plan new s.cells m.memory number line site g h.memory at.there here;
+          words = stub_stands file plan new (places_of file plan) s.cells m.memory number line site g h.memory at.there here;
         } in
         let to : CallsFrom stub line.bit site.target first input output =
         stub_calls stub line.bit site.target site.back (omega (arith, room.2)) (line_bit file plan new number line g at.there) (rw target (omega arith)) (rw target aligned)
@@ -294,10 +307,11 @@ chosen_call file plan new s m w line site input output g h run code at named fou
           next = record {
             pc = to.reaches.pc ∙ target;
             ending = to.reaches.ending ∙ sym run;
-            registers = changed_registers file plan s.registers m.registers to.reaches.next.registers s.bits (stub + 20) (bit_or s.bits (2 ^ line.bit)) (Ret (s.pc + 4))
+            registers = changed_registers (places_of file plan) s.registers m.registers to.reaches.next.registers s.bits (stub + 20) (bit_or s.bits (2 ^ line.bit)) (Ret (s.pc + 4))
                 h.registers to.reaches.registers link bits (λ j a b. to.reaches.others j a b ∙ zero_unread m.registers (behind m.pc) j)
-                (holds_ret file plan (s.pc + 4) (stub + 20) is back);
-            memory = subst (λ x. InMemory file plan new s.cells x) (sym to.reaches.memory) h.memory;
+                (holds_ret (places_of file plan) (s.pc + 4) (stub + 20) is back (omega (arith, room.2)))
+                (or_lt 32 s.bits (2 ^ line.bit) h.registers.bits_small (bit_small line.bit (line_bit file plan new number line g at.there)));
+            memory = subst (λ x. InMemory file new (places_of file plan) s.cells x) (sym to.reaches.memory) h.memory;
           };
         })
 
@@ -317,11 +331,11 @@ line_site file plan new k line g there =
     (subst (λ (l : PlanLine). IsSome (site_at file l.addr)) value (g.fits.sites k line (slice_get_within plan.sites k line there)))
 
 -- the turn of a running machine at what stands at its pc
-running_follows : (file : List ℕ) (plan : Plan) (new : List ℕ) (s : SymMachine) (m : Machine) (input output : List ℕ) → Ground file plan new
+running_follows : (file : List ℕ) (plan : Plan) (new : List ℕ) (s : SymMachine) (m : Machine) (input output : List ℕ) → Ground file plan new → All (λ b. b < 256) input
     → InStep file plan new s m → s.ending ≡ Running → IsNoFault (runs_here file plan input (here file s.pc) s).next.ending
     → Follows file plan new (runs_here file plan input (here file s.pc) s) m input output
 unfolding acts
-running_follows file plan new s m input output g h run safe = by_here (here file s.pc) refl safe
+running_follows file plan new s m input output g bytes h run safe = by_here (here file s.pc) refl safe
   where
     chosen : (w : ℕ) (line : PlanLine) → code_word file s.pc ≡ Some w → line_at plan.sites s.pc ≡ Some line → (o : Option Site) → site_at file s.pc ≡ o → is_some o ≡ true
         → IsNoFault (executes file plan input (decoded w) s).next.ending → Follows file plan new (executes file plan input (decoded w) s) m input output
@@ -335,12 +349,12 @@ running_follows file plan new s m input output g h run safe = by_here (here file
         (chosen_call file plan new s m w line site input output g h run code at named found jal
         (subst (λ o. IsNoFault (executes file plan input o s).next.ending) reads safe))
 
-    by_line : (w : ℕ) → code_word file s.pc ≡ Some w → (o : Option PlanLine) → line_at plan.sites s.pc ≡ o
+    by_line : (w : ℕ) → IsCodeHere file s.pc w → (o : Option PlanLine) → line_at plan.sites s.pc ≡ o
         → IsNoFault (executes file plan input (decoded w) s).next.ending → Follows file plan new (executes file plan input (decoded w) s) m input output
-    by_line w code None named safe = unchosen file plan new s m w input output g h run code named safe
-    by_line w code (Some line) named safe =
+    by_line w here None named safe = unchosen file plan new s m w input output g bytes h run here.code (record { none = named; alone = here.alone }) safe
+    by_line w here (Some line) named safe =
         let at : LineAt plan.sites s.pc line = line_some plan.sites s.pc line named in
-        chosen w line code named (site_at file s.pc) refl
+        chosen w line here.code named (site_at file s.pc) refl
         (subst (λ a. is_some (site_at file a) ≡ true) at.addr (line_site file plan new at.number line g at.there)) safe
 
     by_here : (x : Here) → here file s.pc ≡ x → IsNoFault (runs_here file plan input x s).next.ending → Follows file plan new (runs_here file plan input x s) m input output
@@ -361,13 +375,13 @@ ended_turn input m (Illegal at) h n = rw h refl
 ended_turn input m (Fault kind at) h n = rw h refl
 
 -- a turn of the symbol machine without an address fault is followed
-pub turn_follows : (file : List ℕ) (plan : Plan) (new : List ℕ) (s : SymMachine) (m : Machine) (input output : List ℕ) → Ground file plan new
+pub turn_follows : (file : List ℕ) (plan : Plan) (new : List ℕ) (s : SymMachine) (m : Machine) (input output : List ℕ) → Ground file plan new → All (λ b. b < 256) input
     → InStep file plan new s m → IsNoFault (turn file plan input s).next.ending → Follows file plan new (turn file plan input s) m input output
 unfolding turn
-turn_follows file plan new s m input output g h safe = by_ending s.ending refl safe
+turn_follows file plan new s m input output g bytes h safe = by_ending s.ending refl safe
   where
     by_ending : (e : Ending) → s.ending ≡ e → IsNoFault (turn_of file plan e input s).next.ending → Follows file plan new (turn_of file plan e input s) m input output
-    by_ending Running e safe = running_follows file plan new s m input output g h e safe
+    by_ending Running e safe = running_follows file plan new s m input output g bytes h e safe
     by_ending (Exit status) e safe = ended_follows file plan new s m input output h (ended_turn input m (Exit status) (h.ending ∙ e) (λ q. cc))
     by_ending (Illegal at) e safe = ended_follows file plan new s m input output h (ended_turn input m (Illegal at) (h.ending ∙ e) (λ q. cc))
     by_ending (Fault kind at) e safe = ended_follows file plan new s m input output h (ended_turn input m (Fault kind at) (h.ending ∙ e) (λ q. cc))

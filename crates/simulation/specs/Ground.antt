@@ -11,15 +11,17 @@ use Rattle.elf_spec.specs.Code.{code_word}
 use Rattle.plan_core.specs.declared.types.Plan.{Plan}
 use Rattle.plan_core.specs.declared.types.PlanLine.{PlanLine}
 use Rattle.site_spec.specs.declared.Site.{Site}
-use Rattle.site_spec.specs.Places.{plus, minus, text_at, stub_at}
+use Rattle.rv_isa.specs.Addresses.{plus, minus}
+use Rattle.site_spec.specs.Places.{text_at, stub_at}
 use Rattle.site_spec.specs.Sites.{site_at}
 use Rattle.site_spec.specs.Plans.{Fits}
-use Rattle.site_spec.specs.Stubs.{stub_words}
+use Rattle.new_file_spec.specs.Stubs.{stub_words}
 use Rattle.machine_spec.specs.Memory.{range_at, byte_of, memory_of}
 use Rattle.flat_spec.specs.Stores.{allows_store, fetched}
 use Rattle.sym_spec.specs.Plain.{is_plain, is_plain_store, is_code_byte}
 use Rattle.sym_spec.specs.SymMachine.{line_at}
-use Rattle.match_spec.specs.Matches.{text_room}
+use Rattle.sym_spec.specs.SymTurns.{is_second}
+use Rattle.match_spec.specs.Parts.{text_room}
 
 -- a site is a JAL that links ra: what it calls, and where it comes back to
 pub record IsJalSite (file : List ℕ) (a : ℕ) (s : Site) : Type 0 where
@@ -31,29 +33,40 @@ pub record IsJalSite (file : List ℕ) (a : ℕ) (s : Site) : Type 0 where
   pub back : s.back ≡ a + 4
   pub pair : s.pair ≡ false
 
+-- no site line names an address, and it is no second word
+pub record IsUnchosen (file : List ℕ) (plan : Plan) (a : ℕ) : Type 0 where
+  pub none : line_at plan.sites a ≡ None
+  pub alone : is_second file a ≡ false
+
+-- what is said of memory, whatever the plan
+pub record MemoryGround (file new : List ℕ) : Type 0 where
+  -- plain bytes are neither code nor new text, above which there is only the stack
+  pub plain_data : (a : ℕ) → is_plain file a ≡ true → is_code_byte file a ≡ false
+  pub plain_apart : (a : ℕ) → is_plain file a ≡ true → (a < text_at file) ⊎ (0x7FF00000 ≤ a)
+  pub low_text : text_at file + text_room ≤ 0x7FF00000
+  -- the new file's memory has bytes, and the source's plain ones, to be stored to as there
+  pub bytes : (a b : ℕ) → byte_of (memory_of new) a ≡ Some b → b < 256
+  pub plain : (a : ℕ) → is_plain file a ≡ true → byte_of (memory_of new) a ≡ byte_of (memory_of file) a
+  pub plain_there : (a : ℕ) → is_plain file a ≡ true → is_some (byte_of (memory_of new) a) ≡ true
+  pub storable : (a : ℕ) → is_plain_store file a ≡ true → allows_store (range_at (memory_of new) a) ≡ true
+
 pub record Ground (file : List ℕ) (plan : Plan) (new : List ℕ) : Type 0 where
-  -- the plan fits, and every site is a JAL
+  pub memory : MemoryGround file new
+  pub entry : e_entry new ≡ e_entry file
+  -- the plan fits, every site is a JAL, and no two sites share a return address
   pub fits : Fits file plan
   pub few : length plan.sites ≤ 32
   pub jal_sites : (a : ℕ) (s : Site) → site_at file a ≡ Some s → IsJalSite file a s
+  pub backs : (a b : ℕ) (s t : Site) → site_at file a ≡ Some s → site_at file b ≡ Some t → s.back ≡ t.back → a ≡ b
   -- code words are words, aligned, of code bytes below the new text, and name no x4
   pub words : (a w : ℕ) → code_word file a ≡ Some w → w < 2 ^ 32
   pub aligned : (a w : ℕ) → code_word file a ≡ Some w → a % 4 ≡ 0
   pub low_code : (a w : ℕ) → code_word file a ≡ Some w → a + 4 ≤ text_at file
   pub code_bytes : (a w k : ℕ) → code_word file a ≡ Some w → a ≤ k → k < a + 4 → is_code_byte file k ≡ true
   pub names : (a w : ℕ) (i : Instr) → code_word file a ≡ Some w → decoded w ≡ Some i → names_register i 4 ≡ false
-  -- plain bytes are neither code nor new text; the new text lies below the stack
-  pub plain_data : (a : ℕ) → is_plain file a ≡ true → is_code_byte file a ≡ false
-  pub plain_apart : (a : ℕ) → is_plain file a ≡ true → (a < text_at file) ⊎ (text_at file + text_room ≤ a)
-  pub low_text : text_at file + text_room ≤ 0x7FF00000
   pub aligned_text : text_at file % 4 ≡ 0
-  -- the new file's memory has the source's plain bytes, to be stored to as there
-  pub entry : e_entry new ≡ e_entry file
-  pub plain : (a : ℕ) → is_plain file a ≡ true → byte_of (memory_of new) a ≡ byte_of (memory_of file) a
-  pub plain_there : (a : ℕ) → is_plain file a ≡ true → is_some (byte_of (memory_of new) a) ≡ true
-  pub storable : (a : ℕ) → is_plain_store file a ≡ true → allows_store (range_at (memory_of new) a) ≡ true
-  -- a code word that no site line names is as in the source
-  pub code : (a w : ℕ) → code_word file a ≡ Some w → line_at plan.sites a ≡ None → fetched (memory_of new) a ≡ Some w
+  -- a code word that no site line names and that is no second word is as in the source
+  pub code : (a w : ℕ) → code_word file a ≡ Some w → IsUnchosen file plan a → fetched (memory_of new) a ≡ Some w
   -- the chosen site of line k jumps to stub k, and the stub's words are there
   pub jump : (k : ℕ) (line : PlanLine) → slice_get plan.sites k ≡ Some line
       → fetched (memory_of new) line.addr ≡ Some (encoded (Jal 0 (minus (stub_at (text_at file) k) line.addr)))

@@ -4,13 +4,6 @@ use Rattle.elf_spec.specs.Records.{segments_of}
 use Rattle.elf_spec.specs.Memory.{image_end}
 use Rattle.elf_spec.specs.NewFile.{up4096}
 
--- sums and differences of words wrap at 2^32
-abbrev pub plus : ℕ → ℕ → ℕ
-plus a b = (a + b) % 2 ^ 32
-
-abbrev pub minus : ℕ → ℕ → ℕ
-minus a b = (a + (2 ^ 32 - b)) % 2 ^ 32
-
 -- the new text stands at the first multiple of 4096 that is past the image and at least 65536
 abbrev pub text_at : List ℕ → ℕ
 text_at file = up4096 (max 65536 (image_end (segments_of file)))

@@ -11,7 +11,8 @@ use Rattle.elf_spec.specs.Code.{code_word}
 use Rattle.elf_spec.specs.Heap.{heap_entries}
 use Rattle.elf_spec.specs.Relocations.{relocs_of, has_reloc}
 use Rattle.site_spec.specs.declared.Site.{Site}
-use Rattle.site_spec.specs.Places.{plus, text_at, stub_at, reaches}
+use Rattle.rv_isa.specs.Addresses.{plus}
+use Rattle.site_spec.specs.Places.{text_at, stub_at, reaches}
 
 -- the places of all 32 stubs
 abbrev pub stub_numbers : List ℕ

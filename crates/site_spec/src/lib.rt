@@ -1,4 +1,4 @@
-// The call sites of an executable and, in specs/, which plans fit it and what file a plan makes of it.
+// The call sites of an executable and, in specs/, which plans fit it.
 #![tactic(auto)]
 
 /// A call whose return address is known: the `jal` or the `auipc` and `jalr` at `addr` goes to

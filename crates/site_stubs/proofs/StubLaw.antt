@@ -7,8 +7,8 @@ use Rattle.std.proofs.lemmas.Nat.Bits.{bit_at-pow_other, bit_at-pow_same, bit_at
 use Rattle.rv_isa.specs.declared.Op.TheVariants.{Add, Sll, Or, Xor, And}
 use Rattle.rv_isa.specs.declared.Instr.TheVariants.{Auipc, OpImm, Reg}
 use Rattle.rv_isa.specs.Split.{split_of}
-use Rattle.site_spec.specs.Places.{plus, minus}
-use Rattle.site_spec.specs.Stubs.{stub_words}
+use Rattle.rv_isa.specs.Addresses.{plus, minus}
+use Rattle.new_file_spec.specs.Stubs.{stub_words}
 use Rattle.machine_spec.specs.Memory.{Range}
 use Rattle.flat_spec.specs.Machine.{Machine, register}
 use Rattle.flat_spec.specs.Runs.{State, steps}
@@ -41,9 +41,9 @@ reads_alike words now one four k h a b = decide (nat_eq k 0) refl
     decide false e = let other : k ≢ 0 = grind (arith, nat_tests) in rw e (h.others k other a b)
 
 -- the machine at the end of a way
-ends : (m : Machine) (one bits pc count : ℕ) (input output : List ℕ) → EndsAt m.memory m.registers one bits pc input output count (state_of m input output)
+ends : (m : Machine) (one bits pc count : ℕ) (input output : List ℕ) → one < 2 ^ 32 → EndsAt m.memory m.registers one bits pc input output count (state_of m input output)
     → Reaches count m input output pc bits
-ends m one bits pc count input output h = record {
+ends m one bits pc count input output small h = record {
   next = h.machine;
   run = h.is;
   ending = h.way.run;
@@ -51,6 +51,7 @@ ends m one bits pc count input output h = record {
   memory = h.way.memory_is;
   registers = h.way.changed.long;
   bits = h.way.changed.bits;
+  link_small = let same : slice_index h.machine.registers 1 ≡ one = h.way.changed.first in rw same small;
   others = λ k a b. reads_alike m.registers h.machine.registers one bits k h.way.changed a b;
 }
 
@@ -107,17 +108,17 @@ called : (m : Machine) (at bit target : ℕ) (input output : List ℕ)
     → CallsFrom at bit target m input output
 unfolding ends
 called m at bit target input output h = record {
-  reaches = ends m (plus at 20) (bit_or (register m 4) (2 ^ bit)) target 5 input output h;
+  reaches = ends m (plus at 20) (bit_or (register m 4) (2 ^ bit)) target 5 input output (omega arith) h;
   link = h.way.changed.first;
   one_bit = subst (SetsBit bit (register m 4)) (sym h.way.changed.bits) (sets_one bit (register m 4));
 }
 
-went_back : (m : Machine) (one bit back : ℕ) (input output : List ℕ) → bit < 32
+went_back : (m : Machine) (one bit back : ℕ) (input output : List ℕ) → bit < 32 → one < 2 ^ 32
     → EndsAt m.memory m.registers one (bit_and (register m 4) (2 ^ 32 - 1 - 2 ^ bit)) back input output 6 (state_of m input output)
     → GoesBack bit back m input output
 unfolding ends
-went_back m one bit back input output small h = record {
-  reaches = ends m one (bit_and (register m 4) (2 ^ 32 - 1 - 2 ^ bit)) back 6 input output h;
+went_back m one bit back input output small word h = record {
+  reaches = ends m one (bit_and (register m 4) (2 ^ 32 - 1 - 2 ^ bit)) back 6 input output word h;
   one_bit = subst (ClearsBit bit (register m 4)) (sym h.way.changed.bits) (clears_one bit (register m 4) small);
 }
 
@@ -190,4 +191,4 @@ returns at bit target back small low aligned m input output h =
     next_jump memory words (plus (plus at 36) upper) cleared at 40 0 lower back input output 5 from s5 (there 10 (omega arith))
     (omega arith, omega arith, split_lower distance near) (goes_there (plus at 36) back (omega arith) low) aligned (plus (plus at 36) upper)
     (change_zero words s5.machine.registers (plus (plus at 36) upper) cleared (plus at 44) s5.way.changed) in
-    went_back m (plus (plus at 36) upper) bit back input output small s6
+    went_back m (plus (plus at 36) upper) bit back input output small (omega arith) s6

@@ -9,7 +9,7 @@ use Rattle.rv_isa.specs.declared.Instr.TheVariants.{Auipc, Jalr, OpImm, Reg}
 use Rattle.rv_isa.specs.Compute.{computed}
 use Rattle.rv_isa.specs.Encoded.{encoded, IsFormed}
 use Rattle.rv_isa.proofs.RoundTrip.{decoded-encoded}
-use Rattle.site_spec.specs.Places.{plus}
+use Rattle.rv_isa.specs.Addresses.{plus}
 use Rattle.machine_spec.specs.Memory.{Range}
 use Rattle.machine_spec.specs.Start.{behind}
 use Rattle.flat_spec.specs.Stores.{fetched}

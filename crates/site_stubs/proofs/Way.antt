@@ -3,7 +3,7 @@ use Rattle.std.proofs.Common.{◌≡◌, ◌≢◌, ℕ, ◌+◌, ◌-◌, ◌%�
 use Rattle.std.specs.Prelude.{slice_set, slice_index}
 use Rattle.rv_isa.specs.Split.{split_of}
 use Rattle.rv_isa.specs.Encoded.{IsExtended}
-use Rattle.site_spec.specs.Places.{plus, minus}
+use Rattle.rv_isa.specs.Addresses.{plus, minus}
 use Rattle.machine_spec.specs.declared.Ending.TheVariants.{Running}
 use Rattle.machine_spec.specs.Memory.{Range}
 use Rattle.machine_spec.specs.Start.{behind}

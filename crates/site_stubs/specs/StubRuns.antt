@@ -2,7 +2,7 @@
 -- are taken modulo 2^32.
 use Rattle.std.specs.Prelude.{◌≡◌, ◌≢◌, ℕ, ◌-◌, ◌*◌, ◌^◌, ◌<◌, ◌==◌, List, Some, length, bit_and, bit_or, slice_index, if◌then◌else◌}
 use Rattle.std.specs.Int.{bit_at}
-use Rattle.site_spec.specs.Places.{plus}
+use Rattle.rv_isa.specs.Addresses.{plus}
 use Rattle.machine_spec.specs.declared.Ending.TheVariants.{Running}
 use Rattle.machine_spec.specs.Memory.{Range}
 use Rattle.flat_spec.specs.Stores.{fetched}
@@ -24,8 +24,8 @@ pub record RunsAt (m : Machine) (place at : ℕ) (code : List ℕ) : Type 0 wher
 abbrev pub state_of : Machine → List ℕ → List ℕ → State
 state_of m input output = record { machine = m; input = input; output = output }
 
--- so many turns lead from a machine to one that runs on at a place, with this word in x4: nothing but
--- ra, x4 and the pc changes
+-- so many turns lead from a machine to one that runs on at a place, with this word in x4 and a word in
+-- ra: nothing but ra, x4 and the pc changes
 pub record Reaches (turns : ℕ) (m : Machine) (input output : List ℕ) (place word : ℕ) : Type 0 where
   pub next : Machine
   pub run : steps turns (state_of m input output) ≡ state_of next input output
@@ -34,6 +34,7 @@ pub record Reaches (turns : ℕ) (m : Machine) (input output : List ℕ) (place 
   pub memory : next.memory ≡ m.memory
   pub registers : length next.registers ≡ 32
   pub bits : register next 4 ≡ word
+  pub link_small : register next 1 < 2 ^ 32
   pub others : (k : ℕ) → k ≢ 1 → k ≢ 4 → register next k ≡ register m k
 
 -- bits of which one is set, or cleared, and all others are as before

@@ -5,7 +5,7 @@
 ghost use Rattle.std.specs.Prelude.{◌≡◌, ◌<◌, ◌%◌, [], ◌∷◌};
 ghost use Rattle.rv_isa.specs.Encoded.{encoded, IsOperand};
 ghost use Rattle.rv_isa.specs.Split.{split_of};
-ghost use Rattle.site_spec.specs.Stubs.{stub_words};
+ghost use Rattle.new_file_spec.specs.Stubs.{stub_words};
 ghost use Rattle.site_stubs.specs.StubRuns.{Calls, Returns};
 
 use rv_isa::{Instr, Op, encode, split};

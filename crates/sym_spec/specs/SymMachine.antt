@@ -24,9 +24,12 @@ pub record SymMachine : Type 0 where
   pub bits : ℕ
   pub ending : Ending
 
--- x0 reads 0, whatever was written to it
+-- what a register reads: x0 reads 0, whatever was written to it
+abbrev pub value_read : List Value → ℕ → Value
+value_read values r = if r == 0 then Num 0 else slice_index_or values r Unset
+
 abbrev pub value_of : SymMachine → ℕ → Value
-value_of m r = if r == 0 then Num 0 else slice_index_or m.registers r Unset
+value_of m r = value_read m.registers r
 
 -- goes on to the next instruction, with a value in a register
 abbrev pub gives : ℕ → Value → SymMachine → SymMachine

@@ -1,4 +1,5 @@
--- Runs of the symbol machine: so many turns of an executable under a plan, on an input.
+-- Runs of the symbol machine: so many turns of an executable under a plan, on an input. Heap functions have
+-- no actions of their own yet: for a file with heap functions a run isn't yet what it will be.
 use Rattle.std.specs.Prelude.{ℕ, zero, suc, List, [], ◌++◌}
 use Rattle.plan_core.specs.declared.types.Plan.{Plan}
 use Rattle.sym_spec.specs.SymMachine.{SymMachine, start}

@@ -11,7 +11,7 @@ use Rattle.elf_spec.specs.Code.{code_word}
 use Rattle.elf_spec.specs.Heap.{heap_entries}
 use Rattle.plan_core.specs.declared.types.Plan.{Plan}
 use Rattle.site_spec.specs.declared.Site.{Site}
-use Rattle.site_spec.specs.Places.{plus}
+use Rattle.rv_isa.specs.Addresses.{plus}
 use Rattle.site_spec.specs.Sites.{site_at}
 use Rattle.machine_spec.specs.declared.Ending.{Ending}
 use Rattle.machine_spec.specs.declared.Ending.TheVariants.{Running, Exit, Illegal, Fault}

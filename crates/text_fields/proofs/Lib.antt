@@ -3,4 +3,5 @@ pub mod Parts
 pub mod Steps
 pub mod Fronts
 pub mod Numbers
+pub mod Leading
 pub mod Hexadecimals

@@ -61,7 +61,7 @@ not_refused : {A : Type 0} (t : Bool) (o : Option A) (y : A) → cond t None o �
 not_refused true o y e = absurd cc
 not_refused false o y e = (refl, e)
 
-of_takes : (max v : ℕ) (word : List ℕ) → max < 2 ^ 59 → number_of max word ≡ Some v → (v ≤ max) × (word ≡ decimal v) × (all_ascii_digits word ≡ true)
+pub of_takes : (max v : ℕ) (word : List ℕ) → max < 2 ^ 59 → number_of max word ≡ Some v → (v ≤ max) × (word ≡ decimal v) × (all_ascii_digits word ≡ true)
 unfolding number_of
 of_takes max v word small found =
     let p = not_refused ((length word == 0) || (nat_lt 1 (length word) && (get_or word 0 0 == 48))) (number_on max 0 word) v found in
@@ -74,7 +74,7 @@ decimal_front : (n : ℕ) → n < 2 ^ 64 → get_or (decimal n) 0 0 ≡ 48 → l
 decimal_front zero small first = ap length (decimal_digit 0 (omega arith))
 decimal_front (suc n) small first = absurd (omega (arith, first_decimal (suc n) (omega arith) small))
 
-of_again : (max v : ℕ) → v ≤ max → max < 2 ^ 59 → number_of max (decimal v) ≡ Some v
+pub of_again : (max v : ℕ) → v ≤ max → max < 2 ^ 59 → number_of max (decimal v) ≡ Some v
 unfolding number_of
 of_again max v low small =
     let tiny : v < 2 ^ 64 = omega arith in
@@ -83,6 +83,9 @@ of_again max v low small =
     let front = is_good_front (length (decimal v)) (get_or (decimal v) 0 0) (decimal_nonempty v tiny) (decimal_front v tiny) in
     let on : number_on max 0 (decimal v) ≡ Some (read_on 0 (decimal v)) = on_again max 0 (decimal v) digits (rw is low) in
     rw (front, on, is) refl
+
+pub decimal_digits : (v : ℕ) → v < 2 ^ 64 → all_ascii_digits (decimal v) ≡ true
+decimal_digits v small = digits_decimal own v small
 
 -- a number that is found is in range, and is written there in decimal before the end byte
 pub number_takes : (end max v : ℕ) (bytes rest : List ℕ) → max < 2 ^ 59 → number_at end max bytes ≡ Some (v, rest) → (v ≤ max) × (bytes ≡ decimal v ++ (end ∷ rest))

@@ -1,5 +1,5 @@
 -- What is found at the front of a text: a value and the rest of the text, or none.
-use Rattle.std.specs.Prelude.{◌≡◌, ℕ, ◌+◌, ◌-◌, ◌*◌, ◌^◌, ◌==◌, ◌&&◌, ◌||◌, nat_lt, nat_le, if◌then◌else◌, List, [], ◌∷◌, length, take, drop, slice_index, Option, Some, None}
+use Rattle.std.specs.Prelude.{◌≡◌, ℕ, ◌+◌, ◌-◌, ◌*◌, ◌^◌, ◌==◌, ◌&&◌, ◌||◌, nat_lt, nat_le, false, if◌then◌else◌, ⊤, List, [], ◌∷◌, length, take, drop, slice_index, Option, Some, None}
 use Rattle.std.specs.Option.{option_and_then}
 use Rattle.std.specs.Str.{bytes_eq}
 use Rattle.std.specs.Char.{is_ascii_digit}
@@ -48,6 +48,22 @@ number_at end max bytes = do
   parts ← cut_at end bytes
   number ← number_of max parts.0
   Some (number, parts.1)
+
+-- the decimal digits at the front, and the rest from the first byte on that is none
+abbrev pub digits_at : List ℕ → List ℕ × List ℕ
+digits_at [] = ([], [])
+digits_at (c ∷ cs) = if is_ascii_digit c then (c ∷ (digits_at cs).0, (digits_at cs).1) else ([], c ∷ cs)
+
+-- the number that the digits at the front write, and the rest behind all of them
+unfoldable pub leading_at : ℕ → List ℕ → Option (ℕ × List ℕ)
+leading_at max bytes = do
+  number ← number_of max (digits_at bytes).0
+  Some (number, (digits_at bytes).1)
+
+-- the text goes on with no digit
+abbrev pub GoesOnWithNoDigit : List ℕ → Type 0
+GoesOnWithNoDigit [] = ⊤
+GoesOnWithNoDigit (c ∷ cs) = is_ascii_digit c ≡ false
 
 -- the value of a hexadecimal digit in lower case
 abbrev pub hex_value : ℕ → Option ℕ

@@ -14,8 +14,8 @@ pub fn push_decimal(alloc: Global, out: &mut Vec<u8>, number: u64) -> Result<(),
     out.extend_from_slice(digits.as_bytes())
 }
 
-// The character of a digit below sixteen, in lower case.
-fn digit_character(digit: u8) -> u8
+/// The character of a digit below sixteen, in lower case.
+pub fn digit_character(digit: u8) -> u8
     requires { digit < 16 }
     ensures { result ≡ hex_digit digit }
 {

@@ -1,6 +1,6 @@
 // Readers of the front of a text: each gives the value that stands there and the rest of the text.
 ghost use Rattle.std.specs.Prelude.{◌≡◌, ◌<◌, ◌≤◌, ◌^◌, IfSome};
-ghost use Rattle.text_fields.specs.Reading.{Finds, after_front, cut_at, number_of, number_at, hex_value, hex_at};
+ghost use Rattle.text_fields.specs.Reading.{Finds, after_front, cut_at, number_of, number_at, digits_at, leading_at, hex_value, hex_at};
 
 /// The rest of `bytes` behind `front`, or none where `bytes` doesn't begin with it.
 #[tactic(auto, unfolding(crate::specs::Reading::after_front))]
@@ -10,8 +10,8 @@ pub fn expect<'a>(bytes: &'a [u8], front: &[u8]) -> Option<&'a [u8]>
     bytes.strip_prefix(front)
 }
 
-// The parts of `bytes` before and behind the first byte `end`.
-fn cut(bytes: &[u8], end: u8) -> Option<(&[u8], &[u8])>
+/// The parts of `bytes` before and behind the first byte `end`, or none where `bytes` has no such byte.
+pub fn cut(bytes: &[u8], end: u8) -> Option<(&[u8], &[u8])>
     ensures { Finds (λ parts. (parts.0.now, parts.1.now)) result (cut_at end bytes.now) }
 {
     for at in 0..bytes.len() {
@@ -77,8 +77,34 @@ pub fn read_word(bytes: &[u8], end: u8) -> Option<(u32, &[u8])>
     Some((n as u32, rest))
 }
 
-// The value of a hexadecimal digit in lower case.
-fn digit_value(c: u8) -> Option<u8>
+/// The decimal digits at the front of `bytes`, and the rest from the first byte on that is none.
+pub fn split_digits(bytes: &[u8]) -> (&[u8], &[u8])
+    ensures { (result.0.now, result.1.now) ≡ digits_at bytes.now }
+{
+    for at in 0..bytes.len() {
+        if !bytes[at].is_ascii_digit() {
+            return (&bytes[..at], &bytes[at..]);
+        }
+    }
+    (bytes, &[])
+}
+
+/// The decimal number that the digits at the front of `bytes` write, and the rest behind all of them.
+///
+/// None where there is no such number: it has at least one digit, no leading zero, and is at most `max`.
+#[tactic(auto, unfolding(crate::specs::Reading::leading_at))]
+pub fn read_leading(bytes: &[u8], max: u64) -> Option<(u64, &[u8])>
+    requires { max < 2 ^ 59 }
+    ensures value { Finds (λ x. (x.0, x.1.now)) result (leading_at max bytes.now) }
+    ensures range { IfSome result (λ x. x.0 ≤ max) }
+{
+    let (word, rest) = split_digits(bytes);
+    let n = number(word, max)?;
+    Some((n, rest))
+}
+
+/// The value of a hexadecimal digit in lower case, or none where `c` is no such digit.
+pub fn digit_value(c: u8) -> Option<u8>
     ensures value { result ≡ hex_value c }
     ensures range { IfSome result (λ d. d < 16) }
 {

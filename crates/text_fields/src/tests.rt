@@ -1,6 +1,7 @@
 // Fields read and written, each once.
 use crate::{
-    expect, hex_digits, number, push_decimal, push_hex, read_byte, read_hex, read_number, read_word,
+    cut, digit_character, digit_value, expect, hex_digits, number, push_decimal, push_hex,
+    read_byte, read_hex, read_leading, read_number, read_word, split_digits,
 };
 use std::test::Fail;
 
@@ -21,11 +22,27 @@ fn reads_fields(rt: HostRuntime) -> Result<(), Fail> {
     let (hex, rest) = read_hex(b"89abcdef\n").ok_or("no digits")?;
     assert_eq!(rt; hex, 0x89ab_cdef);
     assert_eq!(rt; rest, b"\n".as_slice());
+    assert_eq!(rt; digit_value(b'f'), Some(15));
+    let (leading, rest) = read_leading(b"900 00010110", 17592186044416).ok_or("no digits")?;
+    assert_eq!(rt; leading, 900);
+    assert_eq!(rt; rest, b" 00010110".as_slice());
+    Ok(())
+}
+
+#[test]
+fn takes_texts_apart(rt: HostRuntime) -> Result<(), Fail> {
+    let (name, value) = cut(b"steps=100", b'=').ok_or("no parts")?;
+    assert_eq!(rt; name, b"steps".as_slice());
+    assert_eq!(rt; value, b"100".as_slice());
+    let (digits, rest) = split_digits(b"100\nedge");
+    assert_eq!(rt; digits, b"100".as_slice());
+    assert_eq!(rt; rest, b"\nedge".as_slice());
     Ok(())
 }
 
 #[test]
 fn writes_fields(rt: HostRuntime) -> Result<(), Fail> {
+    assert_eq!(rt; digit_character(15), b'f');
     assert_eq!(rt; hex_digits(0x0001_0110), *b"00010110");
     let mut text = Vec::new(rt.alloc());
     push_decimal(rt.alloc(), &mut text, 18446744073709551615)?;

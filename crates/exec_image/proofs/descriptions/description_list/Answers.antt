@@ -1,7 +1,7 @@
 -- The parts are added in their order.
 use Rattle.std.proofs.Common.{◌≡◌, length, refl, rules}
 use Rattle.elf_spec.specs.Records.{e_phnum, e_shnum, sections_of}
-use Rattle.reloc_table.proofs.Sections.{count_sections, count_segments}
+use Rattle.exec_image.proofs.Headers.{count_sections, count_segments}
 use Rattle.exec_image.proofs.Shares.{all_described}
 use Rattle.exec_image.proofs.descriptions.description_list.Goals as goal
 

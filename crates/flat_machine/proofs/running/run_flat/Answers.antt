@@ -1,6 +1,5 @@
-use Rattle.flat_machine.proofs.Finishing.{finished}
+use Rattle.flat_machine.proofs.SameRuns.{ran_same}
 use Rattle.flat_machine.proofs.running.run_flat.Goals as goal
 
 pub returns-clause-run : goal.returns-clause-run
-returns-clause-run g c = λ left told.
-    finished _ _ _ _ left _ _ _ _ _ _ c.run_turns-end.ensures.out_later (c.run_turns-end.ensures.run left told) c.finish.ensures.ends
+returns-clause-run g c = λ left told. ran_same _ c.in-Ok.end _ _ left _ _ _ (c.in-Ok.ensures.run left told)

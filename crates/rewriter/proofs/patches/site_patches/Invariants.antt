@@ -1,6 +1,6 @@
 -- The patches so far, and those of the lines that are left, are all.
 use Rattle.std.proofs.Common.{◌≡◌, ◌++◌, drop}
-use Rattle.site_spec.specs.Rewritten.{patches_from}
+use Rattle.new_file_spec.specs.Rewritten.{patches_from}
 use Rattle.rewriter.proofs.patches.site_patches.Given as goal
 
 abbrev pub invariant-loop-number : goal.invariant-loop-number

@@ -1,8 +1,0 @@
--- The memory is laid out as the simulation asks.
-use Rattle.simulation.proofs.Running.{keeps}
-use Rattle.image_keeps.proofs.Ground.{ground}
-use Rattle.image_keeps.proofs.laws.new_files_keep_behaviour.Goals as goal
-
-pub returns : goal.returns
-returns c = λ file plan new facts bytes free pairs fits memory entry.
-    keeps file plan new (ground file plan new facts bytes pairs fits memory entry)

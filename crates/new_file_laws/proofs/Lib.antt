@@ -1,0 +1,12 @@
+pub mod MemoryBytes
+pub mod JalSites
+pub mod Lines
+pub mod CodeWords
+pub mod FewSites
+pub mod PartsFit
+pub mod Segments
+pub mod CodeMemory
+pub mod NewCode
+pub mod Plains
+pub mod Ground
+pub mod Readable
