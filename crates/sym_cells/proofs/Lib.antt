@@ -1,0 +1,6 @@
+pub mod CellLaws
+pub mod LoadLaw
+pub mod StoreLaw
+pub mod Lists
+pub mod MemoryLaws
+pub mod CopyLaw
