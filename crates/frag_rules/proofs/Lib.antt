@@ -1,0 +1,5 @@
+pub mod Values
+pub mod Spans
+pub mod Narrow
+mod Checked
+mod Standing
