@@ -1,0 +1,5 @@
+-- The definitions that the contracts of this crate and of those above it cite.
+pub mod Constants
+pub mod Groups
+pub mod Chunks
+pub mod Results
