@@ -1,0 +1,85 @@
+-- What a command takes: its word, its options and its operands; and the table of all commands.
+use Rattle.std.specs.Prelude.{ℕ, ◌==◌, ◌&&◌, Bool, true, false, not, nat_le, List, [], ◌∷◌, map, Option, None, Some, codes, bytes_eq, if◌then◌else◌}
+use Rattle.text_fields.specs.Reading.{number_of}
+use Rattle.halo_words.specs.declared.forms.Kind.{Kind}
+use Rattle.halo_words.specs.declared.forms.Kind.TheVariants.{Number, Name}
+use Rattle.halo_words.specs.declared.forms.Setting.{Setting}
+use Rattle.halo_words.specs.declared.forms.Operand.{Operand}
+use Rattle.halo_words.specs.declared.forms.Form.{Form}
+
+-- an option: its name without dashes, what its value may be, and the value that stands where it isn't given
+pub record Choice : Type 0 where
+  pub name : List ℕ
+  pub kind : Kind
+  pub default : List ℕ
+
+-- an operand: its name in texts for people, and what it may be
+pub record Place : Type 0 where
+  pub name : List ℕ
+  pub kind : Kind
+
+-- a command: its word, its options, and its operands in their order
+pub record Shape : Type 0 where
+  pub word : List ℕ
+  pub choices : List Choice
+  pub operands : List Place
+
+-- a text that isn't empty and doesn't begin with `-`
+abbrev pub is_plain : List ℕ → Bool
+is_plain [] = false
+is_plain (first ∷ rest) = not (first == 45)
+
+-- a number was read, and it is at least this
+abbrev pub is_at_least : ℕ → Option ℕ → Bool
+is_at_least least None = false
+is_at_least least (Some n) = nat_le least n
+
+-- a number in decimal without a leading zero, within its range; or any text
+abbrev pub has_kind : Kind → List ℕ → Bool
+has_kind (Number least most) text = is_at_least least (number_of most text)
+has_kind Name text = true
+
+-- the text may be a value or an operand of this kind
+abbrev pub fits : Kind → List ℕ → Bool
+fits kind text = is_plain text && has_kind kind text
+
+-- the first option of a name, and the first command of a word
+abbrev pub choice_named : List Choice → List ℕ → Option Choice
+choice_named [] name = None
+choice_named (choice ∷ choices) name = if bytes_eq choice.name name then Some choice else choice_named choices name
+
+abbrev pub shape_named : List Shape → List ℕ → Option Shape
+shape_named [] word = None
+shape_named (shape ∷ shapes) word = if bytes_eq shape.word word then Some shape else shape_named shapes word
+
+-- ---- the commands
+
+abbrev pub plan_name : Place
+plan_name = record { name = codes "PLAN"; kind = Name }
+
+abbrev pub file_name : Place
+file_name = record { name = codes "FILE"; kind = Name }
+
+abbrev pub steps : Choice
+steps = record { name = codes "steps"; kind = Number 0 4294967295; default = codes "100000000" }
+
+-- `rewrite PLAN FILE`, `run [--steps N] FILE` and `show FILE`
+unfoldable pub the_table : List Shape
+the_table = record { word = codes "rewrite"; choices = []; operands = plan_name ∷ file_name ∷ [] }
+    ∷ record { word = codes "run"; choices = steps ∷ []; operands = file_name ∷ [] }
+    ∷ record { word = codes "show"; choices = []; operands = file_name ∷ [] } ∷ []
+
+-- ---- what the types of the program say
+
+abbrev pub choice_of : Setting → Choice
+choice_of setting = record { name = setting.name.now; kind = setting.kind; default = setting.default.now }
+
+abbrev pub place_of : Operand → Place
+place_of operand = record { name = operand.name.now; kind = operand.kind }
+
+abbrev pub shape_of : Form → Shape
+shape_of form = record {
+  word = form.word.now;
+  choices = map choice_of form.settings.now;
+  operands = map place_of form.operands.now;
+}

@@ -1,0 +1,12 @@
+//! The words of a command line: the table of commands, and a reader of lines over it.
+#![tactic(auto)]
+
+mod forms;
+mod laws;
+mod lines;
+mod reading;
+mod values;
+
+pub use forms::{Form, Kind, Operand, Setting, all_forms};
+pub use laws::{words_ask_for_one_thing, words_with_a_wrong_one_are_no_line};
+pub use values::{Stop, Values, read_words};
