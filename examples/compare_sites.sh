@@ -1,7 +1,7 @@
 #!/bin/sh
 # Builds count.c in three ways and compares the call sites that `halo show` prints with those of
 # `objdump -dr`. Usage: compare_sites.sh HALO, where HALO is the program halo. The status is 0 where they
-# agree, or where the toolchain or HALO is missing, which it says.
+# agree, or where the toolchain is missing, which it says; a wrong path of HALO is a failure.
 
 LC_ALL=C
 export LC_ALL
@@ -51,7 +51,10 @@ compare() {
     echo "$1: $jals jal sites and $pairs pair sites agree"
 }
 
-[ -x "${1:-}" ] || skip "no program halo"
+if [ ! -f "${1:-}" ] || [ ! -x "$1" ]; then
+    echo "no program at '${1:-}'; usage: compare_sites.sh HALO" >&2
+    exit 1
+fi
 halo=$(cd "$(dirname "$1")" && pwd)/$(basename "$1")
 for tool in gcc objdump; do
     command -v "$tools-$tool" > /dev/null || skip "no $tools-$tool"

@@ -1,4 +1,4 @@
-# Writes two lines by two calls of one function. It is made of instructions that `halo rewrite` takes.
+# Writes two lines by two calls of one function, each by one JAL.
         .globl _start
         .type _start, @function
 _start:
