@@ -14,7 +14,7 @@ use Rattle.place_spec.specs.Layout.{Block, Layout, granules_for, address_of}
 use Rattle.place_spec.specs.Place.{Placed}
 use Rattle.place_spec.specs.Release.{block_at, released, moved}
 use Rattle.place_spec.specs.Sound.{Sound}
-use Rattle.heap_spec.specs.Places.{base_of, area_end}
+use Rattle.heap_spec.specs.Places.{tables_end, base_of, area_end}
 use Rattle.heap_spec.specs.Tables.{Spells}
 use Rattle.heap_spec.specs.Requests.{Call, Malloc, Calloc, Realloc, Free, Form, Plain, Reentrant, argument_of, granule_at, IsGood, placed_for, address_or_zero, layout_then}
 
@@ -88,6 +88,11 @@ abbrev pub IsInBlock : Area → (data_at : ℕ) → Block → ℕ → Type 0
 IsInBlock area data_at b a =
     (address_of (base_of area data_at) b.first ≤ a) × (a < address_of (base_of area data_at) (b.first + b.granules))
 
+-- an address is neither one of the tables' nor one of the area's
+abbrev pub IsOutside : Area → (data_at : ℕ) → ℕ → Type 0
+IsOutside area data_at a =
+    (a < data_at) ⊎ ((tables_end area data_at ≤ a) × (a < base_of area data_at)) ⊎ (area_end area data_at ≤ a)
+
 -- a request was served: within the bound, less 8 turns, the machine runs at ra, and its tables spell the
 -- layout after the request
 pub record IsServed (area : Area) (data_at : ℕ) (before after : Layout) (m : Machine) (input output : List ℕ)
@@ -108,7 +113,7 @@ pub record IsServed (area : Area) (data_at : ℕ) (before after : Layout) (m : M
   -- so are all other registers, all bytes outside tables and area, and those of each block that lives on
   pub registers : (r : ℕ) → may_change r ≡ false → register end r ≡ register m r
   pub shape : map shape_of end.memory ≡ map shape_of m.memory
-  pub outside : (a : ℕ) → (a < data_at) ⊎ (area_end area data_at ≤ a) → byte_of end.memory a ≡ byte_of m.memory a
+  pub outside : (a : ℕ) → IsOutside area data_at a → byte_of end.memory a ≡ byte_of m.memory a
   pub blocks : All (λ b. block_at before b.first ≡ Some b → (a : ℕ) → IsInBlock area data_at b a
       → byte_of end.memory a ≡ byte_of m.memory a) after.blocks
 
