@@ -5,3 +5,5 @@ pub mod Runs
 pub mod SymRuns
 pub mod WholeRuns
 pub mod WholeSymRuns
+pub mod CallRules
+pub mod Notes

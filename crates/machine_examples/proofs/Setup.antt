@@ -1,5 +1,5 @@
 -- Both machines at their start with a stack of 512 bytes in place of the whole one, and two plans.
-use Rattle.std.specs.Prelude.{ℕ, ◌+◌, ◌*◌, List, [], ◌∷◌, ◌++◌, true, false, map, filter, replicate, Option, None, if◌then◌else◌}
+use Rattle.std.specs.Prelude.{ℕ, ◌+◌, ◌*◌, List, [], ◌∷◌, ◌++◌, true, false, map, filter, replicate, if◌then◌else◌}
 use Rattle.elf_spec.specs.Memory.{is_loaded}
 use Rattle.elf_spec.specs.Records.{segments_of, e_entry}
 use Rattle.plan_core.specs.declared.types.Plan.{Plan}
@@ -7,9 +7,13 @@ use Rattle.machine_spec.specs.declared.Ending.TheVariants.{Running}
 use Rattle.machine_spec.specs.Memory.{Range, range_of, byte_of}
 use Rattle.machine_spec.specs.Start.{start_registers}
 use Rattle.flat_spec.specs.Runs.{State}
-use Rattle.sym_spec.specs.declared.Value.TheVariants.{Num}
-use Rattle.sym_spec.specs.Cells.{Bytes, Cells}
+use Rattle.sym_value.specs.declared.Value.TheVariants.{Num}
+use Rattle.sym_cells.specs.declared.Mark.{Mark}
+use Rattle.sym_cells.specs.declared.Mark.TheVariants.{Blank}
+use Rattle.sym_cells.specs.Cells.{Bytes, Cell}
+use Rattle.sym_cells.specs.Memory.{Memory}
 use Rattle.sym_spec.specs.Plain.{is_plain}
+use Rattle.sym_spec.specs.StartMemory.{mark_of, segment_span, span_over}
 use Rattle.sym_spec.specs.SymRuns.{SymState}
 
 -- the top 512 bytes of the stack: the first sp, 0x7FFFFF00, is in their middle
@@ -28,19 +32,27 @@ flat_start file = record {
   output = [];
 }
 
--- the cells at the start: every plain byte of that memory is known
-abbrev pub small_byte : List ℕ → ℕ → Option ℕ
-small_byte file a = if is_plain file a then byte_of (small_memory file) a else None
+-- the memory of the symbol machine at the start: every plain byte of that memory is known
+abbrev pub small_mark : List ℕ → ℕ → Mark
+small_mark file a = if is_plain file a then mark_of (byte_of (small_memory file) a) else Blank
 
-abbrev pub small_cells : List ℕ → Cells
-small_cells file k =
-    Bytes (small_byte file (4 * k)) (small_byte file (4 * k + 1)) (small_byte file (4 * k + 2)) (small_byte file (4 * k + 3))
+abbrev pub small_cell : List ℕ → ℕ → Cell
+small_cell file k =
+    Bytes (small_mark file (4 * k)) (small_mark file (4 * k + 1)) (small_mark file (4 * k + 2))
+    (small_mark file (4 * k + 3))
+
+abbrev pub small_start : List ℕ → Memory
+small_start file = record {
+  plain = map (segment_span (small_cell file)) (filter is_loaded (segments_of file))
+      ++ span_over (small_cell file) 0x7FFFFE00 512 ∷ [];
+  blocks = [];
+}
 
 -- the symbol machine that is about to run a file without input
 abbrev pub sym_start : List ℕ → SymState
 sym_start file = record {
   machine = record {
-    cells = small_cells file;
+    memory = small_start file;
     registers = map (λ w. Num w) start_registers;
     pc = e_entry file;
     bits = 0;
@@ -56,4 +68,9 @@ empty_plan = record { sites = []; rows = []; area = record { chunks = 0; log_chu
 
 -- the plan with the site at 0x10100, whose bit is 0
 abbrev pub plan_p3 : Plan
-plan_p3 = record { sites = record { bit = 0; addr = 0x10100 } ∷ []; rows = []; area = record { chunks = 0; log_chunk = 0; fallback = 0 } }
+plan_p3 = record {
+  sites = record { bit = 0; addr = 0x10100 } ∷ [];
+  rows = [];
+  area =
+      record { chunks = 0; log_chunk = 0; fallback = 0 };
+}

@@ -4,8 +4,11 @@ use Rattle.std.specs.Prelude.{⊤, [], ◌∷◌}
 use Rattle.rv_isa.specs.Compute.{computed, is_held}
 use Rattle.machine_spec.specs.declared.Ending.TheVariants.{Running, Exit}
 use Rattle.machine_spec.specs.Memory.{byte_of}
-use Rattle.sym_spec.specs.declared.Value.TheVariants.{Ret, Unset}
-use Rattle.sym_spec.specs.Values.{apply, decide}
+use Rattle.sym_value.specs.declared.Value.TheVariants.{Ret, Unset}
+use Rattle.sym_value.specs.Decisions.{decide}
+use Rattle.sym_value.specs.Operations.{apply}
+use Rattle.sym_cells.specs.Memory.{loaded, stored}
+use Rattle.sym_cells.specs.Buffers.{is_within, taken, filled}
 use Rattle.sym_spec.specs.Plain.{is_plain, is_plain_store}
 use Rattle.sym_spec.specs.SymMachine.{value_of, back_index}
 use Rattle.sym_spec.specs.SymCalls.{calls}
@@ -18,7 +21,7 @@ use Rattle.machine_examples.proofs.NewFiles.{sites_opened}
 
 -- what a proof unfolds to compute a run of a file that is written out
 unfoldable pub sym_run_opened : ⊤
-unfolding sites_opened steps step turn acts calls here apply decide is_plain is_plain_store back_index computed is_held byte_of
+unfolding sites_opened steps step turn acts calls here apply decide loaded stored is_within taken filled is_plain is_plain_store back_index computed is_held byte_of
 sym_run_opened = tt
 
 -- the first program runs after two turns, has exited with 0 after three, and has written nothing

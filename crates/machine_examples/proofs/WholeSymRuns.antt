@@ -3,7 +3,7 @@ use Rattle.std.proofs.Common.{◌≡◌, refl}
 use Rattle.std.specs.Prelude.{⊤, [], ◌∷◌}
 use Rattle.machine_spec.specs.declared.Ending.TheVariants.{Running, Exit}
 use Rattle.machine_spec.specs.Memory.{stack, memory_of}
-use Rattle.sym_spec.specs.Plain.{start_cells}
+use Rattle.sym_spec.specs.StartMemory.{start_memory}
 use Rattle.sym_spec.specs.SymMachine.{start}
 use Rattle.sym_spec.specs.SymRuns.{sym_run}
 use Rattle.machine_examples.proofs.Files.{p2, p3}
@@ -12,7 +12,7 @@ use Rattle.machine_examples.proofs.SymRuns.{sym_run_opened}
 
 -- what a proof unfolds to compute such a run
 unfoldable pub whole_sym_run_opened : ⊤
-unfolding sym_run_opened sym_run start start_cells memory_of stack
+unfolding sym_run_opened sym_run start start_memory memory_of stack
 whole_sym_run_opened = tt
 
 -- the first program runs after two turns, has exited with 0 after three, and has written nothing

@@ -14,7 +14,7 @@ pub record InStep (file : List ℕ) (plan : Plan) (new : List ℕ) (s : SymMachi
   pub pc : m.pc ≡ s.pc
   pub ending : m.ending ≡ s.ending
   pub registers : InRegisters (places_of file plan) s.registers m.registers s.bits
-  pub memory : InMemory file new (places_of file plan) s.cells m.memory
+  pub memory : InMemory file new (places_of file plan) s.memory m.memory
 
 -- and the same input and output
 pub record Matches (file : List ℕ) (plan : Plan) (new : List ℕ) (s : SymState) (f : State) : Type 0 where

@@ -1,16 +1,17 @@
 -- The two parts of a match: registers and memory.
-use Rattle.std.specs.Prelude.{length, ◌≡◌, ◌≢◌, ℕ, ◌+◌, ◌*◌, ◌<◌, ◌≤◌, ◌^◌, List, true, map, Option, Some, option_map}
-use Rattle.machine_spec.specs.Widths.{number_of}
-use Rattle.machine_spec.specs.Memory.{Range, shape_of, memory_of, byte_of, all_from}
+use Rattle.std.specs.Prelude.{length, ◌≡◌, ◌≢◌, ℕ, ◌+◌, ◌<◌, ◌≤◌, ◌^◌, List, true, false, map, Some}
+use Rattle.elf_spec.specs.Memory.{image_end}
+use Rattle.elf_spec.specs.Records.{segments_of}
+use Rattle.machine_spec.specs.Memory.{Range, shape_of, memory_of, byte_of}
 use Rattle.site_spec.specs.Places.{text_at}
-use Rattle.flat_spec.specs.Stores.{bytes_from}
 use Rattle.flat_spec.specs.Machine.{word_read}
-use Rattle.sym_spec.specs.declared.Value.{Value}
-use Rattle.sym_spec.specs.declared.Value.TheVariants.{Num, Ret}
-use Rattle.sym_spec.specs.Cells.{Symbol, Cells, known}
-use Rattle.sym_spec.specs.Plain.{is_plain, is_code_byte}
+use Rattle.sym_value.specs.declared.Value.{Value}
+use Rattle.sym_value.specs.declared.Value.TheVariants.{Num}
+use Rattle.sym_cells.specs.Memory.{Memory}
+use Rattle.sym_cells.specs.Region.{InBlock, Laid, MemoryStands}
+use Rattle.sym_spec.specs.Plain.{is_plain, is_plain_store, is_code_byte}
 use Rattle.sym_spec.specs.SymMachine.{value_read}
-use Rattle.match_spec.specs.Stands.{Places, Holds, IsReturn}
+use Rattle.match_spec.specs.Stands.{Places, Holds}
 
 pub record InRegisters (places : Places) (values : List Value) (words : List ℕ) (bits : ℕ) : Type 0 where
   -- every register but x4 stands for its value, and x4 is the bits; all are words
@@ -23,27 +24,18 @@ pub record InRegisters (places : Places) (values : List Value) (words : List ℕ
   pub long : length words ≡ 32
   pub sym_long : length values ≡ 32
 
--- the word of memory at an address
-abbrev pub word_in : List Range → ℕ → Option ℕ
-word_in memory a = option_map number_of (bytes_from memory a 4)
-
--- a word that stands for a value is at an address
-pub record StandsInMemory (places : Places) (memory : List Range) (a : ℕ) (v : Value) : Type 0 where
-  pub word : ℕ
-  pub there : word_in memory a ≡ Some word
-  pub holds : Holds places v word
-
 -- the room of the new text, up to where further segments may stand
 abbrev pub text_room : ℕ
 text_room = 0x5000
 
-pub record InMemory (file new : List ℕ) (places : Places) (cells : Cells) (memory : List Range) : Type 0 where
-  -- every known plain byte is in memory, and every plain cell that is a symbol has a word there
-  pub bytes : (a b : ℕ) → is_plain file a ≡ true → known cells a ≡ Some b → byte_of memory a ≡ Some b
-  pub symbols : (k : ℕ) (v : Value) → all_from (is_plain file) (4 * k) 4 ≡ true → cells k ≡ Symbol v
-      → StandsInMemory places memory (4 * k) v
-  -- every return address in a cell is one
-  pub stored_returns : (k a : ℕ) → cells k ≡ Symbol (Ret a) → IsReturn a
+pub record InMemory (file new : List ℕ) (places : Places) (m : Memory) (memory : List Range) : Type 0 where
+  -- the bytes of plain memory and of each living block stand for its cells
+  pub stands : MemoryStands places.back places.blocks (is_plain file) memory m
+  -- plain memory and the blocks lie where they may
+  pub laid : Laid places.blocks (image_end (segments_of file)) (is_plain file) (is_plain_store file) memory m
+  -- living blocks have no byte of the code, and lie above the new text
+  pub block_data : (a : ℕ) → InBlock places.blocks m a → is_code_byte file a ≡ false
+  pub block_apart : (a : ℕ) → InBlock places.blocks m a → text_at file + text_room ≤ a
   -- every byte is below 256
   pub small : (a b : ℕ) → byte_of memory a ≡ Some b → b < 256
   -- memory has the new file's ranges and flags, and its bytes in the code and in the new text

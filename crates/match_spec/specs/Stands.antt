@@ -1,9 +1,9 @@
 -- Which words of the flat machine stand for which values of the symbol machine.
-use Rattle.std.specs.Prelude.{◌≡◌, ℕ, ◌+◌, ◌%◌, ◌^◌, ◌<◌, List, [], Option, Some, None}
+use Rattle.std.specs.Prelude.{ℕ, ◌+◌, ◌^◌, ◌<◌, List, [], Option, Some, None}
 use Rattle.plan_core.specs.declared.types.Plan.{Plan}
 use Rattle.site_spec.specs.Places.{text_at, stub_at}
-use Rattle.sym_spec.specs.declared.Value.{Value}
-use Rattle.sym_spec.specs.declared.Value.TheVariants.{Num, Ret, Unset}
+use Rattle.sym_value.specs.declared.Value.{Value}
+use Rattle.sym_value.specs.Standing as values
 use Rattle.sym_spec.specs.SymMachine.{back_index}
 
 -- where a call comes back to in the new file: behind the call in its stub, for a chosen site
@@ -25,23 +25,7 @@ pub record Places : Type 0 where
 abbrev pub places_of : List ℕ → Plan → Places
 places_of file plan = record { back = back_of file plan; blocks = [] }
 
-abbrev pub Stands : Places → Value → ℕ → Type 0
-Stands places (Num v) w = v ≡ w
-Stands places (Ret a) w = places.back a ≡ w
-Stands places Unset w = Unit {0}
-
--- a return address is a word and a multiple of 4
-abbrev pub IsReturn : ℕ → Type 0
-IsReturn a = (a < 2 ^ 32) × (a % 4 ≡ 0)
-
--- a value that a register or a word of memory can have
-abbrev pub IsValue : Value → Type 0
-IsValue (Num v) = Unit {0}
-IsValue (Ret a) = IsReturn a
-IsValue Unset = Unit {0}
-
--- a number stands for a value, and is a word
+-- a word that stands for a value of this run
 pub record Holds (places : Places) (v : Value) (w : ℕ) : Type 0 where
-  pub stands : Stands places v w
-  pub value : IsValue v
+  pub is : values.Holds places.back places.blocks v w
   pub small : w < 2 ^ 32

@@ -17,14 +17,18 @@ apart_bits [] apart = λ i j d lt low. absurd (omega arith)
 apart_bits (line ∷ lines) apart = λ i j d lt low q.
     let long : length (bits_of (line ∷ lines)) ≡ length (line ∷ lines) = length-map (line ∷ lines) (λ l. l.bit) in
     let below : j < length (line ∷ lines) = omega (arith, low, long) in
-    let at : get_or (bits_of (line ∷ lines)) i d ≡ (get_or (line ∷ lines) i line).bit = get_or-map (λ l. l.bit) (line ∷ lines) i line d (omega (arith, below, lt)) in
-    let to : get_or (bits_of (line ∷ lines)) j d ≡ (get_or (line ∷ lines) j line).bit = get_or-map (λ l. l.bit) (line ∷ lines) j line d below in
+    let at : get_or (bits_of (line ∷ lines)) i d ≡ (get_or (line ∷ lines) i line).bit =
+    get_or-map (λ l. l.bit) (line ∷ lines) i line d (omega (arith, below, lt)) in
+    let to : get_or (bits_of (line ∷ lines)) j d ≡ (get_or (line ∷ lines) j line).bit =
+    get_or-map (λ l. l.bit) (line ∷ lines) j line d below in
     apart i j line lt below (sym at ∙ (q ∙ to))
 
-pub few : (n : ℕ) (lines : List PlanLine) → All (λ l. l.bit < n) lines → AllPairs (λ l m. l.bit ≢ m.bit) lines → length lines ≤ n
+pub few : (n : ℕ) (lines : List PlanLine) → All (λ l. l.bit < n) lines → AllPairs (λ l m. l.bit ≢ m.bit) lines
+    → length lines ≤ n
 few n lines low apart =
     let long : length (bits_of lines) ≡ length lines = length-map lines (λ l. l.bit) in
-    let short : length (bits_of lines) ≤ n = length-le_from_distinct_below (bits_of lines) n (IsDistinct-from_AllPairs Decides-eqb (bits_of lines) (apart_bits lines apart)) below in
+    let short : length (bits_of lines) ≤ n = length-le_from_distinct_below (bits_of lines) n
+    (IsDistinct-from_AllPairs Decides-eqb (bits_of lines) (apart_bits lines apart)) below in
     omega (arith, long, short)
   where
     below : (q : ℕ) → list_any (eqb q) (bits_of lines) ≡ true → q < n

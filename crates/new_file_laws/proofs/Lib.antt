@@ -1,5 +1,5 @@
 pub mod MemoryBytes
-pub mod JalSites
+pub mod SiteKinds
 pub mod Lines
 pub mod CodeWords
 pub mod FewSites

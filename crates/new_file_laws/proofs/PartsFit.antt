@@ -1,7 +1,7 @@
 -- The patches and the new text of a fitting plan fit an accepted file.
-use Rattle.std.proofs.Common.{◌≡◌, ◌≢◌, ℕ, zero, suc, ◌+◌, ◌<◌, ◌≤◌, List, [], ◌∷◌, length, get_or, refl, sym, subst, arith, Option, Some, None}
+use Rattle.std.proofs.Common.{◌≡◌, ◌≢◌, ℕ, zero, suc, ◌+◌, ◌<◌, ◌≤◌, ◌*◌, List, [], ◌∷◌, ◌++◌, length, get_or, refl, sym, subst, arith, Option, Some, None}
 use Rattle.std.specs.Prelude.{All, AllPairs, IsSome, slice_get, sum_by, true, false}
-use Rattle.std.proofs.lemmas.List.Elements.{All-cons, All-head, All-nil, All-tail, All-weaker}
+use Rattle.std.proofs.lemmas.List.Elements.{All-append, All-cons, All-head, All-nil, All-tail, All-weaker}
 use Rattle.std.proofs.lemmas.Option.{get_or_from_slice_get, slice_get_within}
 use Rattle.elf_spec.specs.declared.NewSegment.{NewSegment}
 use Rattle.elf_spec.specs.declared.Patch.{Patch}
@@ -14,31 +14,65 @@ use Rattle.elf_write.specs.Layout.{AreApart, IsApart}
 use Rattle.exec_image.specs.Accepted.{AcceptedFacts}
 use Rattle.plan_core.specs.declared.types.Plan.{Plan}
 use Rattle.plan_core.specs.declared.types.PlanLine.{PlanLine}
-use Rattle.site_spec.specs.Places.{text_at}
+use Rattle.site_spec.specs.Places.{stub_at, text_at}
 use Rattle.site_spec.specs.Plans.{Fits}
-use Rattle.new_file_spec.specs.Rewritten.{patches_from, text_segment}
+use Rattle.new_file_spec.specs.Rewritten.{jump_words, patch_to, patches_at, patches_from, text_segment}
 use Rattle.new_file_spec.specs.Rewritten.{patches_for, segments_for, text_for}
-use Rattle.new_file_laws.specs.Parts.{AreParts, HasNoPairs}
+use Rattle.new_file_laws.specs.Parts.{AreParts}
 use Rattle.new_file_laws.proofs.CodeWords.{IsOfCode, behind_header, code_alone, tables_left, words_apart}
 use Rattle.new_file_laws.proofs.Plains.{IsTextPlace, text_place}
-use Rattle.new_file_laws.proofs.Lines.{IsJalLine, IsJump, few_sites, jal_lines, jump_at, jumps, length_text, patches_step}
+use Rattle.new_file_laws.proofs.Lines.{IsJump, IsSiteLine, IsWordAt, each_at, few_sites, jumps, length_text, patches_step, site_lines}
+use Rattle.new_file_laws.proofs.SiteKinds.{few_words, words_differ}
 
-jumps_apart : (file : List ℕ) (n : ℕ) (lines : List PlanLine) → AcceptedFacts file → All (IsJalLine file) lines → AllPairs (λ l m. l.addr ≢ m.addr) lines
+-- two lists of patches that are apart, and apart from each other, are apart
+apart_append : (ps qs : List Patch) → AreApart ps → AreApart qs → All (λ p. All (IsApart p) qs) ps → AreApart (ps ++ qs)
+apart_append [] qs first second between = second
+apart_append (p ∷ ps) qs (low, (rest, more)) second between = (
+  low,
+  (
+    All-append (IsApart p) ps qs rest (All-head (λ p. All (IsApart p) qs) p ps between),
+    apart_append ps qs more second (All-tail (λ p. All (IsApart p) qs) p ps between),
+  ),
+)
+
+-- the patches of successive words are apart
+words_at_apart : (file : List ℕ) (a : ℕ) (ws : List ℕ) → AcceptedFacts file → AreApart (patches_at file a ws)
+words_at_apart file a [] facts = tt
+words_at_apart file a (w ∷ ws) facts = by_place (words_at_apart file (a + 4) ws facts) (code_place file a) refl
+  where
+    by_place : AreApart (patches_at file (a + 4) ws) → (o : Option ℕ) → code_place file a ≡ o
+        → AreApart (patch_to w o ++ patches_at file (a + 4) ws)
+    by_place rest None e = rest
+    by_place rest (Some place) e = (
+      behind_header file a place facts e,
+      (
+        All-weaker (IsWordAt file (a + 4) ws) (IsApart (record { offset = place; word = w })) apart
+            (patches_at file (a + 4) ws) (each_at file (a + 4) ws),
+        rest,
+      ),
+    )
+      where
+        apart : (p : Patch) → IsWordAt file (a + 4) ws p → IsApart (record { offset = place; word = w }) p
+        apart p (j, there, word) = words_apart file a (a + 4 + 4 * j) place p.offset facts e there (omega arith)
+
+jumps_apart : (file : List ℕ) (n : ℕ) (lines : List PlanLine) → AcceptedFacts file → All (IsSiteLine file) lines
+    → AllPairs (λ l m. l.addr ≢ m.addr) lines
     → AreApart (patches_from file n lines)
 jumps_apart file n [] facts h once = tt
 jumps_apart file n (line ∷ lines) facts h once =
-    subst AreApart (sym (patches_step file n line lines l)) (
-      behind_header file line.addr l.place facts l.there,
-      (
-        All-weaker (IsJump file (n + 1) lines) (IsApart (jump_at file n line l.place)) apart (patches_from file (n + 1) lines)
-            (jumps file (n + 1) lines (All-tail (IsJalLine file) line lines h)),
-        jumps_apart file (n + 1) lines facts (All-tail (IsJalLine file) line lines h)
-            (λ i j d lt low. once (suc i) (suc j) d (omega (arith, lt)) (omega (arith, low))),
-      ),
-    )
+    subst AreApart (sym (patches_step file n line lines l.site l.at))
+    (apart_append (patches_at file line.addr words) (patches_from file (n + 1) lines)
+    (words_at_apart file line.addr words facts)
+    (jumps_apart file (n + 1) lines facts (All-tail (IsSiteLine file) line lines h)
+    (λ i j d lt low. once (suc i) (suc j) d (omega (arith, lt)) (omega (arith, low))))
+    (All-weaker (IsWordAt file line.addr words) (λ p. All (IsApart p) (patches_from file (n + 1) lines)) between
+    (patches_at file line.addr words) (each_at file line.addr words)))
   where
-    l : IsJalLine file line
-    l = All-head (IsJalLine file) line lines h
+    l : IsSiteLine file line
+    l = All-head (IsSiteLine file) line lines h
+
+    words : List ℕ
+    words = jump_words (stub_at (text_at file) n) l.site
 
     other_place : (k : ℕ) (other : PlanLine) → slice_get lines k ≡ Some other → line.addr ≢ other.addr
     other_place k other e =
@@ -46,8 +80,18 @@ jumps_apart file n (line ∷ lines) facts h once =
         let value : get_or lines k line ≡ other = get_or_from_slice_get lines k other line e in
         subst (λ (x : PlanLine). line.addr ≢ x.addr) value (once 0 (suc k) line (omega arith) (omega (arith, below)))
 
-    apart : (p : Patch) → IsJump file (n + 1) lines p → IsApart (jump_at file n line l.place) p
-    apart p (k, other, e, place, w) = words_apart file line.addr other.addr l.place p.offset facts l.there place (other_place k other e)
+    apart : (p q : Patch) → IsWordAt file line.addr words p → IsJump file (n + 1) lines q → IsApart p q
+    apart p q (i, place, e) (k, other, s, f, at, (j, there, g)) =
+        words_apart file (line.addr + 4 * i) (other.addr + 4 * j) p.offset q.offset facts place there
+        (words_differ file line.addr other.addr i j l.site s l.at at (other_place k other f)
+        (few_words file line.addr (stub_at (text_at file) n) i p.word l.site l.at e)
+        (few_words file other.addr (stub_at (text_at file) (n + 1 + k)) j q.word s at g))
+
+    between : (p : Patch) → IsWordAt file line.addr words p → All (IsApart p) (patches_from file (n + 1) lines)
+    between p word =
+        All-weaker (IsJump file (n + 1) lines) (IsApart p) (λ q jump. apart p q word jump)
+        (patches_from file (n + 1) lines)
+        (jumps file (n + 1) lines (All-tail (IsSiteLine file) line lines h))
 
 -- the entry is a code word, so the file has program headers
 has_headers : (file : List ℕ) → AcceptedFacts file → 0 < e_phnum file
@@ -58,18 +102,21 @@ has_headers file facts = by_place (code_place file (e_entry file)) refl
     some i (suc n) low = omega arith
 
     by_place : (o : Option ℕ) → code_place file (e_entry file) ≡ o → 0 < e_phnum file
-    by_place None e = absurd (let none : IsSome (code_word file (e_entry file)) = facts.entry in let q : false ≡ true = rw e at none in cc)
+    by_place None e = absurd (let none : IsSome (code_word file (e_entry file)) = facts.entry in let q : false ≡ true =
+        rw e at none in cc)
     by_place (Some p) e = let (i, g, low, is, at) = (facts.code (e_entry file) p e).loaded in some i (e_phnum file) low
 
-short_text : (file : List ℕ) (plan : Plan) → HasNoPairs file → Fits file plan → length (text_for file plan) ≤ 65536
-short_text file plan single fits = omega (arith, length_text file plan single fits, few_sites file plan fits)
+short_text : (file : List ℕ) (plan : Plan) → Fits file plan → length (text_for file plan) ≤ 65536
+short_text file plan fits = omega (arith, length_text file plan fits, few_sites file plan fits)
 
-added_above : (file : List ℕ) (plan : Plan) → AcceptedFacts file → HasNoPairs file → Fits file plan → AreAddedAbove file (segments_for file plan)
-added_above file plan facts single fits =
-    let short : length (text_for file plan) ≤ 65536 = short_text file plan single fits in
+added_above : (file : List ℕ) (plan : Plan) → AcceptedFacts file → Fits file plan
+    → AreAddedAbove file (segments_for file plan)
+added_above file plan facts fits =
+    let short : length (text_for file plan) ≤ 65536 = short_text file plan fits in
     let memory : memory_size (segments_of file) ≤ 67108864 = facts.memory in
     let place : IsTextPlace file = text_place file facts.end in
-    let size : sum_by (λ (s : NewSegment). s.mem_size) (segments_for file plan) ≡ length (text_for file plan) = omega arith in
+    let size : sum_by (λ (s : NewSegment). s.mem_size) (segments_for file plan) ≡ length (text_for file plan) =
+    omega arith in
     record {
       some = has_headers file facts;
       above = (
@@ -82,22 +129,27 @@ added_above file plan facts single fits =
     }
 
 -- the jumps are patches of the code
-pub of_code : (file : List ℕ) (plan : Plan) → HasNoPairs file → Fits file plan → All (IsOfCode file) (patches_for file plan)
-of_code file plan single fits =
-    All-weaker (IsJump file 0 plan.sites) (IsOfCode file) (λ p jump. let (k, line, e, place, w) = jump in (line.addr, place)) (patches_for file plan)
-    (jumps file 0 plan.sites (jal_lines file plan single fits))
+pub of_code : (file : List ℕ) (plan : Plan) → Fits file plan → All (IsOfCode file) (patches_for file plan)
+of_code file plan fits =
+    All-weaker (IsJump file 0 plan.sites) (IsOfCode file) of_line (patches_for file plan)
+    (jumps file 0 plan.sites (site_lines file plan fits))
+  where
+    of_line : (p : Patch) → IsJump file 0 plan.sites p → IsOfCode file p
+    of_line p (k, line, s, e, at, (j, there, word)) = (line.addr + 4 * j, there)
 
-pub parts_fit : (file : List ℕ) (plan : Plan) → AcceptedFacts file → HasNoPairs file → Fits file plan → AreParts file (patches_for file plan) (segments_for file plan)
-parts_fit file plan facts single fits = record {
+pub parts_fit : (file : List ℕ) (plan : Plan) → AcceptedFacts file → Fits file plan
+    → AreParts file (patches_for file plan) (segments_for file plan)
+parts_fit file plan facts fits = record {
   inside = All-weaker (IsOfCode file) (IsInside (length file)) inside (patches_for file plan) codes;
-  apart = jumps_apart file 0 plan.sites facts (jal_lines file plan single fits) fits.once;
+  apart = jumps_apart file 0 plan.sites facts (site_lines file plan fits) fits.once;
   unpatched = tables_left (IsOfCode file) file (patches_for file plan) (code_alone file facts) codes;
-  above = added_above file plan facts single fits;
-  small = All-cons IsSmall (text_segment (text_at file) (text_for file plan)) [] (short_text file plan single fits) (All-nil IsSmall);
+  above = added_above file plan facts fits;
+  small = All-cons IsSmall (text_segment (text_at file) (text_for file plan)) [] (short_text file plan fits)
+      (All-nil IsSmall);
 }
   where
     codes : All (IsOfCode file) (patches_for file plan)
-    codes = of_code file plan single fits
+    codes = of_code file plan fits
 
     inside : (p : Patch) → IsOfCode file p → IsInside (length file) p
     inside p (a, e) = (facts.code a p.offset e).inside

@@ -66,7 +66,8 @@ pub record InImage (file : List ℕ) (a : ℕ) : Type 0 where
 on_stack : (a : ℕ) → is_stack a ≡ true → OnStack a
 on_stack a h = (grind (arith, nat_tests), grind (arith, nat_tests))
 
-plain_cases : (s i c h : Bool) → (s || (i && (not c && not h))) ≡ true → (s ≡ true) ⊎ ((i ≡ true) × (c ≡ false) × (h ≡ false))
+plain_cases : (s i c h : Bool) → (s || (i && (not c && not h))) ≡ true
+    → (s ≡ true) ⊎ ((i ≡ true) × (c ≡ false) × (h ≡ false))
 plain_cases true i c h e = inl refl
 plain_cases false true false false e = inr (refl, refl, refl)
 plain_cases false true false true e = absurd (cc)
@@ -84,9 +85,11 @@ none_of p xs x one none = at (p x) refl
 pub plain_where : (file : List ℕ) (a : ℕ) → is_plain file a ≡ true → OnStack a ⊎ InImage file a
 unfolding is_plain
 plain_where file a plain =
-    at (plain_cases (is_stack a) (list_any (is_in a) (segments_of file)) (is_code_byte file a) (list_any (is_header_byte a) (segments_of file)) plain)
+    at (plain_cases (is_stack a) (list_any (is_in a) (segments_of file)) (is_code_byte file a)
+    (list_any (is_header_byte a) (segments_of file)) plain)
   where
-    at : (is_stack a ≡ true) ⊎ ((list_any (is_in a) (segments_of file) ≡ true) × (is_code_byte file a ≡ false) × (list_any (is_header_byte a) (segments_of file) ≡ false))
+    at : (is_stack a ≡ true) ⊎ ((list_any (is_in a) (segments_of file) ≡ true) × (is_code_byte file a ≡ false)
+        × (list_any (is_header_byte a) (segments_of file) ≡ false))
         → OnStack a ⊎ InImage file a
     at (inl s) = inl (on_stack a s)
     at (inr (some, code, header)) =
@@ -115,7 +118,8 @@ plain_data file a facts plain = at (plain_where file a plain)
     at (inl on) = stack_data on (is_code_byte file a) refl
     at (inr image) = image.no_code
 
-pub plain_apart : (file : List ℕ) (a : ℕ) → IsTextPlace file → is_plain file a ≡ true → (a < text_at file) ⊎ (0x7FF00000 ≤ a)
+pub plain_apart : (file : List ℕ) (a : ℕ) → IsTextPlace file → is_plain file a ≡ true
+    → (a < text_at file) ⊎ (0x7FF00000 ≤ a)
 plain_apart file a text plain = at (plain_where file a plain)
   where
     at : OnStack a ⊎ InImage file a → (a < text_at file) ⊎ (0x7FF00000 ≤ a)
@@ -126,10 +130,12 @@ plain_apart file a text plain = at (plain_where file a plain)
 
 -- the place of a plain byte of the image is kept in the new file
 past_header : (b : Bool) (e i a : ℕ) → b ≡ true → a < e → (b && (nat_lt a e && nat_lt i 52)) ≡ false → 52 ≤ i
-past_header true e i a t l h = let x : nat_lt a e ≡ true = grind (arith, nat_tests) in let y : nat_lt i 52 ≡ false = rw x at h in grind (arith, nat_tests)
+past_header true e i a t l h = let x : nat_lt a e ≡ true = grind (arith, nat_tests) in let y : nat_lt i 52 ≡ false =
+    rw x at h in grind (arith, nat_tests)
 past_header false e i a t l h = absurd (cc)
 
-beside_code : (file : List ℕ) (a i b o : ℕ) → AcceptedFacts file → is_code_byte file a ≡ false → IsLoadedAt file a i → code_place file b ≡ Some o → IsBeside o 4 i
+beside_code : (file : List ℕ) (a i b o : ℕ) → AcceptedFacts file → is_code_byte file a ≡ false → IsLoadedAt file a i
+    → code_place file b ≡ Some o → IsBeside o 4 i
 beside_code file a i b o facts plain loaded there = by_order (nat_lt i o) (nat_lt i (o + 4)) refl refl
   where
     by_order : (s t : Bool) → nat_lt i o ≡ s → nat_lt i (o + 4) ≡ t → IsBeside o 4 i
@@ -140,14 +146,18 @@ beside_code file a i b o facts plain loaded there = by_order (nat_lt i o) (nat_l
         let h : i < o + 4 = grind (arith, nat_tests) in
         let small : i - o < 4 = omega (arith, l, h) in
         let same : o + (i - o) ≡ i = omega (arith, l) in
-        let word : IsLoadedAt file (b + (i - o)) i = subst (IsLoadedAt file (b + (i - o))) same (code_loaded file b o (i - o) facts there small) in
+        let word : IsLoadedAt file (b + (i - o)) i =
+        subst (IsLoadedAt file (b + (i - o))) same (code_loaded file b o (i - o) facts there small) in
         let at : a ≡ b + (i - o) = one_address file a (b + (i - o)) i facts.facts loaded word in
-        let code : is_code_byte file a ≡ true = code_bytes file b o a there (omega (arith, at)) (omega (arith, at, small)) in
+        let code : is_code_byte file a ≡ true = code_bytes file b o a there (omega (arith, at))
+        (omega (arith, at, small)) in
         absurd (let clash : true ≡ false = sym code ∙ plain in cc)
 
-image_same : (file : List ℕ) (patches : List Patch) (segments : List NewSegment) (new : List ℕ) (a : ℕ) → AcceptedFacts file → NewMemory file patches segments new
+image_same : (file : List ℕ) (patches : List Patch) (segments : List NewSegment) (new : List ℕ) (a : ℕ)
+    → AcceptedFacts file → NewMemory file patches segments new
     → All (IsOfCode file) patches → InImage file a → byte_of (memory_of new) a ≡ byte_of (memory_of file) a
-image_same file patches segments new a facts m code image = at (nat_lt (a - image.segment.vaddr) image.segment.file_size) refl
+image_same file patches segments new a facts m code image =
+    at (nat_lt (a - image.segment.vaddr) image.segment.file_size) refl
   where
     bounds : (b : Bool) (v n a : ℕ) → (b && (nat_le v a && nat_lt a (v + n))) ≡ true → (b ≡ true) × (v ≤ a)
     bounds true v n a e = (refl, grind (arith, nat_tests))
@@ -156,7 +166,8 @@ image_same file patches segments new a facts m code image = at (nat_lt (a - imag
     there : place_at (segments_of file) a ≡ Some (place_in image.segment a)
     there = place_there file a image.segment facts.facts image.among image.is
 
-    at : (b : Bool) → nat_lt (a - image.segment.vaddr) image.segment.file_size ≡ b → byte_of (memory_of new) a ≡ byte_of (memory_of file) a
+    at : (b : Bool) → nat_lt (a - image.segment.vaddr) image.segment.file_size ≡ b
+        → byte_of (memory_of new) a ≡ byte_of (memory_of file) a
     at false e = m.zeros a (there ∙ rw e refl)
     at true e =
         let (l, low) = bounds (is_loaded image.segment) image.segment.vaddr image.segment.mem_size a image.is in
@@ -164,20 +175,25 @@ image_same file patches segments new a facts m code image = at (nat_lt (a - imag
         let by : IsLoadedBy image.segment a (image.segment.offset + (a - image.segment.vaddr)) =
         record { loaded = l; low = low; high = omega (arith, part, low); offset = omega (arith, low) } in
         let behind : 52 ≤ image.segment.offset + (a - image.segment.vaddr) =
-        past_header (is_in a image.segment) (image.segment.vaddr + image.segment.file_size) (image.segment.offset + (a - image.segment.vaddr)) a image.is (omega (arith, part, low)) image.no_header in
+        past_header (is_in a image.segment) (image.segment.vaddr + image.segment.file_size)
+        (image.segment.offset + (a - image.segment.vaddr)) a image.is (omega (arith, part, low)) image.no_header in
         m.kept a (image.segment.offset + (a - image.segment.vaddr)) (there ∙ rw e refl) (record {
-          inside = loaded_inside file a (image.segment.offset + (a - image.segment.vaddr)) facts.facts (image.segment, image.among, by);
+          inside = loaded_inside file a (image.segment.offset + (a - image.segment.vaddr)) facts.facts
+              (image.segment, image.among, by);
           no_phoff = inr (omega (arith, behind));
           no_phnum = inr (omega (arith, behind));
-          no_patch = λ j d k. beside_code file a (image.segment.offset + (a - image.segment.vaddr)) (code j d k).0 (get_or patches j d).offset facts image.no_code (image.segment, image.among, by) (code j d k).1;
+          no_patch = λ j d k. beside_code file a (image.segment.offset + (a - image.segment.vaddr)) (code j d k).0
+              (get_or patches j d).offset facts image.no_code (image.segment, image.among, by) (code j d k).1;
         })
 
 -- the stack is as in the source
 zeros_there : (start n : ℕ) (w x : Bool) (a : ℕ) → start ≤ a → a < start + n
-    → range_at (record { start = start; writable = w; executable = x; bytes = replicate n 0 } ∷ []) a ≡ Some (record { start = start; writable = w; executable = x; bytes = replicate n 0 })
+    → range_at (record { start = start; writable = w; executable = x; bytes = replicate n 0 } ∷ []) a
+    ≡ Some (record { start = start; writable = w; executable = x; bytes = replicate n 0 })
 zeros_there start n w x a low high =
     let long : length {A = ℕ} (replicate n 0) ≡ n = length-replicate {A = ℕ} n 0 in
-    let inside : (nat_le start a && nat_lt a (start + length {A = ℕ} (replicate n 0))) ≡ true = rw long (grind (arith, nat_tests)) in
+    let inside : (nat_le start a && nat_lt a (start + length {A = ℕ} (replicate n 0))) ≡ true =
+    rw long (grind (arith, nat_tests)) in
     rw inside refl
 
 stack_there : (a : ℕ) → OnStack a → range_at (stack ∷ []) a ≡ Some stack
@@ -193,33 +209,40 @@ pub record IsText (file bytes : List ℕ) : Type 0 where
   pub some : 0 < length bytes
   pub short : length bytes ≤ text_room
 
-behind_text : (file bytes : List ℕ) (a : ℕ) → IsTextPlace file → IsText file bytes → OnStack a → range_at (ranges_behind (text_segment (text_at file) bytes ∷ [])) a ≡ Some stack
+behind_text : (file bytes : List ℕ) (a : ℕ) → IsTextPlace file → IsText file bytes → OnStack a
+    → range_at (ranges_behind (text_segment (text_at file) bytes ∷ [])) a ≡ Some stack
 behind_text file bytes a text long on =
     range_past_text (text_at file) bytes a long.some (omega (arith, text.low, long.short, on.0)) ∙ stack_there a on
 
 above_image : (file : List ℕ) (a : ℕ) → IsTextPlace file → OnStack a → image_end (segments_of file) ≤ a
 above_image file a text on = omega (arith, text.above, text.low, on.0)
 
-stack_byte : (file : List ℕ) (patches : List Patch) (bytes new : List ℕ) (a : ℕ) → AcceptedFacts file → IsTextPlace file → IsText file bytes
+stack_byte : (file : List ℕ) (patches : List Patch) (bytes new : List ℕ) (a : ℕ) → AcceptedFacts file → IsTextPlace file
+    → IsText file bytes
     → NewMemory file patches (text_segment (text_at file) bytes ∷ []) new → OnStack a
     → (byte_of (memory_of new) a ≡ byte_of (stack ∷ []) a) × (byte_of (memory_of file) a ≡ byte_of (stack ∷ []) a)
 stack_byte file patches bytes new a facts text long m on =
     let none : place_at (segments_of file) a ≡ None = place_above file a (above_image file a text on) in (
-      m.beside a none ∙ (byte_in (ranges_behind (text_segment (text_at file) bytes ∷ [])) a stack (behind_text file bytes a text long on)
+      m.beside a none ∙ (byte_in (ranges_behind (text_segment (text_at file) bytes ∷ [])) a stack
+          (behind_text file bytes a text long on)
           ∙ sym (byte_in (stack ∷ []) a stack (stack_there a on))),
       m.beside_before a none,
     )
 
-pub plain_same : (file : List ℕ) (patches : List Patch) (bytes new : List ℕ) (a : ℕ) → AcceptedFacts file → IsTextPlace file → IsText file bytes
-    → NewMemory file patches (text_segment (text_at file) bytes ∷ []) new → All (IsOfCode file) patches → is_plain file a ≡ true → byte_of (memory_of new) a ≡ byte_of (memory_of file) a
+pub plain_same : (file : List ℕ) (patches : List Patch) (bytes new : List ℕ) (a : ℕ) → AcceptedFacts file
+    → IsTextPlace file → IsText file bytes
+    → NewMemory file patches (text_segment (text_at file) bytes ∷ []) new → All (IsOfCode file) patches
+    → is_plain file a ≡ true → byte_of (memory_of new) a ≡ byte_of (memory_of file) a
 plain_same file patches bytes new a facts text long m code plain = at (plain_where file a plain)
   where
     at : OnStack a ⊎ InImage file a → byte_of (memory_of new) a ≡ byte_of (memory_of file) a
     at (inl on) = let (x, y) = stack_byte file patches bytes new a facts text long m on in x ∙ sym y
     at (inr image) = image_same file patches (text_segment (text_at file) bytes ∷ []) new a facts m code image
 
-pub plain_there : (file : List ℕ) (patches : List Patch) (bytes new : List ℕ) (a : ℕ) → AcceptedFacts file → IsTextPlace file → IsText file bytes
-    → NewMemory file patches (text_segment (text_at file) bytes ∷ []) new → All (IsOfCode file) patches → is_plain file a ≡ true → is_some (byte_of (memory_of new) a) ≡ true
+pub plain_there : (file : List ℕ) (patches : List Patch) (bytes new : List ℕ) (a : ℕ) → AcceptedFacts file
+    → IsTextPlace file → IsText file bytes
+    → NewMemory file patches (text_segment (text_at file) bytes ∷ []) new → All (IsOfCode file) patches
+    → is_plain file a ≡ true → is_some (byte_of (memory_of new) a) ≡ true
 plain_there file patches bytes new a facts text long m code plain =
     ap is_some (plain_same file patches bytes new a facts text long m code plain) ∙ at (plain_where file a plain)
   where
@@ -228,7 +251,8 @@ plain_there file patches bytes new a facts text long m code plain =
         let (x, y) = stack_byte file patches bytes new a facts text long m on in
         ap is_some (y ∙ byte_in (stack ∷ []) a stack (stack_there a on))
     at (inr image) =
-        ap is_some (m.before a (place_in image.segment a) (place_there file a image.segment facts.facts image.among image.is))
+        ap is_some (m.before a (place_in image.segment a)
+        (place_there file a image.segment facts.facts image.among image.is))
 
 -- what can be stored to in the source can be in the new file
 store_cases : (p s i : Bool) → (p && (s || i)) ≡ true → (s ≡ true) ⊎ (i ≡ true)
@@ -242,19 +266,27 @@ both_true true true e = (refl, refl)
 both_true true false e = absurd (cc)
 both_true false q e = absurd (cc)
 
-pub storable : (file : List ℕ) (patches : List Patch) (bytes new : List ℕ) (a : ℕ) → AcceptedFacts file → IsTextPlace file → IsText file bytes
-    → NewMemory file patches (text_segment (text_at file) bytes ∷ []) new → is_plain_store file a ≡ true → allows_store (range_at (memory_of new) a) ≡ true
+pub storable : (file : List ℕ) (patches : List Patch) (bytes new : List ℕ) (a : ℕ) → AcceptedFacts file
+    → IsTextPlace file → IsText file bytes
+    → NewMemory file patches (text_segment (text_at file) bytes ∷ []) new → is_plain_store file a ≡ true
+    → allows_store (range_at (memory_of new) a) ≡ true
 unfolding is_plain_store
 storable file patches bytes new a facts text long m store =
-    at (store_cases (is_plain file a) (is_stack a) (list_any (λ s. is_in a s && is_set 2 s.flags) (segments_of file)) store)
+    at (store_cases (is_plain file a) (is_stack a)
+    (list_any (λ s. is_in a s && is_set 2 s.flags) (segments_of file)) store)
   where
-    at : (is_stack a ≡ true) ⊎ (list_any (λ s. is_in a s && is_set 2 s.flags) (segments_of file) ≡ true) → allows_store (range_at (memory_of new) a) ≡ true
+    at : (is_stack a ≡ true) ⊎ (list_any (λ s. is_in a s && is_set 2 s.flags) (segments_of file) ≡ true)
+        → allows_store (range_at (memory_of new) a) ≡ true
     at (inl s) =
         let on : OnStack a = on_stack a s in
-        same_writable (memory_of new) (like_new file (text_segment (text_at file) bytes ∷ [])) a (same_shapes file patches (text_segment (text_at file) bytes ∷ []) new m)
-        ∙ (ap allows_store (range_above file (ranges_behind (text_segment (text_at file) bytes ∷ [])) a facts.facts (above_image file a text on) ∙ behind_text file bytes a text long on)
+        same_writable (memory_of new) (like_new file (text_segment (text_at file) bytes ∷ [])) a
+        (same_shapes file patches (text_segment (text_at file) bytes ∷ []) new m)
+        ∙ (ap allows_store (range_above file (ranges_behind (text_segment (text_at file) bytes ∷ [])) a facts.facts
+        (above_image file a text on) ∙ behind_text file bytes a text long on)
         ∙ stack_writable)
     at (inr i) =
         let (g, found) = found_some (λ s. is_in a s && is_set 2 s.flags) (segments_of file) i in
-        let (inside, flag) = both_true (is_in a g) (is_set 2 g.flags) (found_passes (λ s. is_in a s && is_set 2 s.flags) (segments_of file) g found) in
-        stores_there file patches (text_segment (text_at file) bytes ∷ []) new a g facts.facts m (found_one (λ s. is_in a s && is_set 2 s.flags) (segments_of file) g found) inside flag
+        let (inside, flag) = both_true (is_in a g) (is_set 2 g.flags)
+        (found_passes (λ s. is_in a s && is_set 2 s.flags) (segments_of file) g found) in
+        stores_there file patches (text_segment (text_at file) bytes ∷ []) new a g facts.facts m
+        (found_one (λ s. is_in a s && is_set 2 s.flags) (segments_of file) g found) inside flag

@@ -15,8 +15,10 @@ use Rattle.new_file_laws.specs.Parts.{IsInCode}
 use Rattle.new_file_laws.proofs.CodeWords.{section_alone, section_behind, section_inside, tables_left}
 use Rattle.std.proofs.lemmas.List.Elements.{All-weaker}
 
-pub readable_again : (file : List ℕ) (patches : List Patch) (segments : List NewSegment) → AcceptedFacts file → All (IsInCode file) patches
-    → AreFieldsAlone file → e_phnum file + length segments ≤ 100 → DoHeadersPass file segments → IsReadable (new_file file patches segments)
+pub readable_again : (file : List ℕ) (patches : List Patch) (segments : List NewSegment) → AcceptedFacts file
+    → All (IsInCode file) patches
+    → AreFieldsAlone file → e_phnum file + length segments ≤ 100 → DoHeadersPass file segments
+    → IsReadable (new_file file patches segments)
 readable_again file patches segments facts codes alone few pass =
     readable_new file patches segments (new_file file patches segments)
     (new_layout file patches segments record {
@@ -24,5 +26,6 @@ readable_again file patches segments facts codes alone few pass =
       table = facts.facts.segment_table;
       inside = All-weaker (IsInCode file) (IsInside (length file)) (section_inside file facts) patches codes;
     })
-    facts.readable facts.facts (All-weaker (IsInCode file) (λ p. 52 ≤ p.offset) (section_behind file facts) patches codes) few
+    facts.readable facts.facts (All-weaker (IsInCode file) (λ p. 52 ≤ p.offset)
+    (section_behind file facts) patches codes) few
     (tables_left (IsInCode file) file patches (section_alone file facts) codes) alone pass

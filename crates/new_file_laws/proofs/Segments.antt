@@ -45,7 +45,8 @@ one_or_two {X = X} R xs x y pairs (i, e) (j, f) = by_order (nat_lt i j) (nat_lt 
     pair : (i j : ℕ) (x y : X) → i < j → slice_get xs i ≡ Some x → slice_get xs j ≡ Some y → R x y
     pair i j x y l e f =
         subst (λ u. R u y) (get_or_from_slice_get xs i x x e)
-        (subst (λ v. R (get_or xs i x) v) (get_or_from_slice_get xs j y x f) (pairs i j x l (slice_get_within xs j y f)))
+        (subst (λ v. R (get_or xs i x) v) (get_or_from_slice_get xs j y x f)
+        (pairs i j x l (slice_get_within xs j y f)))
 
     by_order : (s t : Bool) → nat_lt i j ≡ s → nat_lt j i ≡ t → (x ≡ y) ⊎ (R x y ⊎ R y x)
     by_order true t s' t' = inr (inl (pair i j x y (grind (arith, nat_tests)) e f))
@@ -72,7 +73,8 @@ find_one {X = X} p R xs x pairs apart one passes = is (found_some p xs (any_of p
 abbrev IsApart : Segment → Segment → Type 0
 IsApart s t = meets s t ≡ false
 
-address_shared : (v m w n a : ℕ) (b c r : Bool) → (b && (nat_le v a && nat_lt a (v + m))) ≡ true → (c && (nat_le w a && nat_lt a (w + n))) ≡ true
+address_shared : (v m w n a : ℕ) (b c r : Bool) → (b && (nat_le v a && nat_lt a (v + m))) ≡ true
+    → (c && (nat_le w a && nat_lt a (w + n))) ≡ true
     → ((b && c) && (is_shared v m w n || r)) ≡ true
 address_shared v m w n a true true r e f = let g : is_shared v m w n ≡ true = grind (arith, nat_tests) in rw g refl
 address_shared v m w n a true false r e f = absurd (cc)
@@ -80,9 +82,11 @@ address_shared v m w n a false c r e f = absurd (cc)
 
 no_address : (a : ℕ) (s t : Segment) → IsApart s t → is_in a s ≡ true → is_in a t ≡ true → ⊥
 no_address a s t apart e f =
-    let g : true ≡ false = sym (address_shared s.vaddr s.mem_size t.vaddr t.mem_size a (is_loaded s) (is_loaded t) _ e f) ∙ apart in cc
+    let g : true ≡ false = sym (address_shared s.vaddr s.mem_size t.vaddr t.mem_size a (is_loaded s)
+    (is_loaded t) _ e f) ∙ apart in cc
 
-offset_shared : (o f q g i : ℕ) (b c r : Bool) → b ≡ true → c ≡ true → o ≤ i → i < o + f → q ≤ i → i < q + g → ((b && c) && (r || is_shared o f q g)) ≡ true
+offset_shared : (o f q g i : ℕ) (b c r : Bool) → b ≡ true → c ≡ true → o ≤ i → i < o + f → q ≤ i → i < q + g
+    → ((b && c) && (r || is_shared o f q g)) ≡ true
 offset_shared o f q g i true true true e h j k l m = refl
 offset_shared o f q g i true true false e h j k l m = grind (arith, nat_tests)
 offset_shared o f q g i true false r e h j k l m = absurd (cc)
@@ -91,7 +95,8 @@ offset_shared o f q g i false c r e h j k l m = absurd (cc)
 no_offset : (i : ℕ) (s t : Segment) → IsApart s t → is_loaded s ≡ true → is_loaded t ≡ true
     → s.offset ≤ i → i < s.offset + s.file_size → t.offset ≤ i → i < t.offset + t.file_size → ⊥
 no_offset i s t apart e f h j k l =
-    let g : true ≡ false = sym (offset_shared s.offset s.file_size t.offset t.file_size i (is_loaded s) (is_loaded t) _ e f h j k l) ∙ apart in cc
+    let g : true ≡ false = sym (offset_shared s.offset s.file_size t.offset t.file_size i (is_loaded s)
+    (is_loaded t) _ e f h j k l) ∙ apart in cc
 
 -- the place and the range of an address, by the segment that has it
 pub place_is : (hs : List Segment) (a : ℕ) → place_at hs a ≡ option_map (λ h. place_in h a) (find (is_in a) hs)
@@ -99,7 +104,8 @@ place_is [] a = refl
 place_is (h ∷ hs) a = at (is_in a h) (place_is hs a)
   where
     at : (b : Bool) → place_at hs a ≡ option_map (λ h. place_in h a) (find (is_in a) hs)
-        → (if b then Some (place_in h a) else place_at hs a) ≡ option_map (λ h. place_in h a) (if b then Some h else find (is_in a) hs)
+        → (if b then Some (place_in h a) else place_at hs a)
+        ≡ option_map (λ h. place_in h a) (if b then Some h else find (is_in a) hs)
     at true more = refl
     at false more = more
 
@@ -108,53 +114,68 @@ range_or file (Some h) o = Some (range_of file h)
 range_or file None o = o
 
 pub range_is : (file : List ℕ) (hs : List Segment) (rest : List Range) (a : ℕ) → All (IsLoadedInside (length file)) hs
-    → range_at (map (range_of file) (filter is_loaded hs) ++ rest) a ≡ range_or file (find (is_in a) hs) (range_at rest a)
+    → range_at (map (range_of file) (filter is_loaded hs) ++ rest) a
+    ≡ range_or file (find (is_in a) hs) (range_at rest a)
 range_is file [] rest a w = refl
-range_is file (h ∷ hs) rest a w = at (is_loaded h) refl (range_is file hs rest a (All-tail (IsLoadedInside (length file)) h hs w))
+range_is file (h ∷ hs) rest a w = at (is_loaded h) refl
+    (range_is file hs rest a (All-tail (IsLoadedInside (length file)) h hs w))
   where
-    within : (b : Bool) → range_at (map (range_of file) (filter is_loaded hs) ++ rest) a ≡ range_or file (find (is_in a) hs) (range_at rest a)
+    within : (b : Bool) → range_at (map (range_of file) (filter is_loaded hs) ++ rest) a
+        ≡ range_or file (find (is_in a) hs) (range_at rest a)
         → (if b then Some (range_of file h) else range_at (map (range_of file) (filter is_loaded hs) ++ rest) a)
         ≡ range_or file (if b then Some h else find (is_in a) hs) (range_at rest a)
     within true more = refl
     within false more = more
 
-    at : (b : Bool) → is_loaded h ≡ b → range_at (map (range_of file) (filter is_loaded hs) ++ rest) a ≡ range_or file (find (is_in a) hs) (range_at rest a)
+    at : (b : Bool) → is_loaded h ≡ b → range_at (map (range_of file) (filter is_loaded hs) ++ rest) a
+        ≡ range_or file (find (is_in a) hs) (range_at rest a)
         → range_at (map (range_of file) (if b then h ∷ filter is_loaded hs else filter is_loaded hs) ++ rest) a
         ≡ range_or file (if b && is_between h.vaddr h.mem_size a then Some h else find (is_in a) hs) (range_at rest a)
     at true e more =
-        let long : length (range_of file h).bytes ≡ h.mem_size = length-range file h (All-head (IsLoadedInside (length file)) h hs w e) in
-        let same : covers a (range_of file h) ≡ is_between h.vaddr h.mem_size a = ap (λ n. nat_le h.vaddr a && nat_lt a (h.vaddr + n)) long in
-        subst (λ b. (if b then Some (range_of file h) else range_at (map (range_of file) (filter is_loaded hs) ++ rest) a)
-        ≡ range_or file (if is_between h.vaddr h.mem_size a then Some h else find (is_in a) hs) (range_at rest a)) (sym same)
+        let long : length (range_of file h).bytes ≡ h.mem_size =
+        length-range file h (All-head (IsLoadedInside (length file)) h hs w e) in
+        let same : covers a (range_of file h) ≡ is_between h.vaddr h.mem_size a =
+        ap (λ n. nat_le h.vaddr a && nat_lt a (h.vaddr + n)) long in
+        subst (λ b. (if b then Some (range_of file h) else range_at
+        (map (range_of file) (filter is_loaded hs) ++ rest) a)
+        ≡ range_or file (if is_between h.vaddr h.mem_size a then Some h else find (is_in a) hs)
+        (range_at rest a)) (sym same)
         (within (is_between h.vaddr h.mem_size a) more)
     at false e more = more
 
 -- the segment that has an address is found there
-pub found_there : (file : List ℕ) (a : ℕ) (g : Segment) → ReadableFacts file → IsOneOf g (segments_of file) → is_in a g ≡ true
+pub found_there : (file : List ℕ) (a : ℕ) (g : Segment) → ReadableFacts file → IsOneOf g (segments_of file)
+    → is_in a g ≡ true
     → find (is_in a) (segments_of file) ≡ Some g
 found_there file a g facts one is =
     find_one (is_in a) IsApart (segments_of file) g facts.apart (λ s t apart e f. no_address a s t apart e f) one is
 
-pub place_there : (file : List ℕ) (a : ℕ) (g : Segment) → ReadableFacts file → IsOneOf g (segments_of file) → is_in a g ≡ true
+pub place_there : (file : List ℕ) (a : ℕ) (g : Segment) → ReadableFacts file → IsOneOf g (segments_of file)
+    → is_in a g ≡ true
     → place_at (segments_of file) a ≡ Some (place_in g a)
 place_there file a g facts one is =
     place_is (segments_of file) a ∙ ap (option_map (λ h. place_in h a)) (found_there file a g facts one is)
 
-pub range_there : (file : List ℕ) (rest : List Range) (a : ℕ) (g : Segment) → ReadableFacts file → IsOneOf g (segments_of file) → is_in a g ≡ true
+pub range_there : (file : List ℕ) (rest : List Range) (a : ℕ) (g : Segment) → ReadableFacts file
+    → IsOneOf g (segments_of file) → is_in a g ≡ true
     → range_at (map (range_of file) (filter is_loaded (segments_of file)) ++ rest) a ≡ Some (range_of file g)
 range_there file rest a g facts one is =
     range_is file (segments_of file) rest a facts.segments
     ∙ ap (λ o. range_or file o (range_at rest a)) (found_there file a g facts one is)
 
 -- no segment has an address at or above the image's end
-low_end : (b : Bool) (v m a end : ℕ) → (b && (nat_le v a && nat_lt a (v + m))) ≡ true → (b ≡ true → v + m ≤ end) → a < end
-low_end true v m a end e low = let l : v + m ≤ end = low refl in let h : a < v + m = grind (arith, nat_tests) in omega (arith, l, h)
+low_end : (b : Bool) (v m a end : ℕ) → (b && (nat_le v a && nat_lt a (v + m))) ≡ true → (b ≡ true → v + m ≤ end)
+    → a < end
+low_end true v m a end e low = let l : v + m ≤ end = low refl in let h : a < v + m =
+    grind (arith, nat_tests) in omega (arith, l, h)
 low_end false v m a end e low = absurd (cc)
 
-pub below_image_end : (file : List ℕ) (a : ℕ) (g : Segment) → IsOneOf g (segments_of file) → is_in a g ≡ true → a < image_end (segments_of file)
+pub below_image_end : (file : List ℕ) (a : ℕ) (g : Segment) → IsOneOf g (segments_of file) → is_in a g ≡ true
+    → a < image_end (segments_of file)
 below_image_end file a g one e =
     low_end (is_loaded g) g.vaddr g.mem_size a (image_end (segments_of file)) e
-    (all_of (λ s. is_loaded s ≡ true → s.vaddr + s.mem_size ≤ image_end (segments_of file)) (segments_of file) g (ends_below (segments_of file)) one)
+    (all_of (λ s. is_loaded s ≡ true → s.vaddr + s.mem_size ≤ image_end (segments_of file)) (segments_of file) g
+    (ends_below (segments_of file)) one)
 
 none_above : (file : List ℕ) (a : ℕ) → image_end (segments_of file) ≤ a → find (is_in a) (segments_of file) ≡ None
 none_above file a high = at (find (is_in a) (segments_of file)) refl
@@ -162,7 +183,9 @@ none_above file a high = at (find (is_in a) (segments_of file)) refl
     at : (o : Option Segment) → find (is_in a) (segments_of file) ≡ o → o ≡ None
     at None e = refl
     at (Some g) e =
-        absurd (let low : a < image_end (segments_of file) = below_image_end file a g (found_one (is_in a) (segments_of file) g e) (found_passes (is_in a) (segments_of file) g e) in omega (arith, low, high))
+        absurd (let low : a < image_end (segments_of file) =
+        below_image_end file a g (found_one (is_in a) (segments_of file) g e)
+        (found_passes (is_in a) (segments_of file) g e) in omega (arith, low, high))
 
 pub place_above : (file : List ℕ) (a : ℕ) → image_end (segments_of file) ≤ a → place_at (segments_of file) a ≡ None
 place_above file a high = place_is (segments_of file) a ∙ ap (option_map (λ h. place_in h a)) (none_above file a high)
@@ -187,36 +210,44 @@ between_true : (b : Bool) (v m a : ℕ) → b ≡ true → v ≤ a → a < v + m
 between_true true v m a e l h = grind (arith, nat_tests)
 between_true false v m a e l h = absurd (cc)
 
-pub in_segment : (file : List ℕ) (a i : ℕ) (g : Segment) → ReadableFacts file → IsOneOf g (segments_of file) → IsLoadedBy g a i → is_in a g ≡ true
+pub in_segment : (file : List ℕ) (a i : ℕ) (g : Segment) → ReadableFacts file → IsOneOf g (segments_of file)
+    → IsLoadedBy g a i → is_in a g ≡ true
 in_segment file a i g facts one by =
-    let inside : IsInside (length file) g = all_of (IsLoadedInside (length file)) (segments_of file) g facts.segments one by.loaded in
+    let inside : IsInside (length file) g = all_of (IsLoadedInside (length file))
+    (segments_of file) g facts.segments one by.loaded in
     between_true (is_loaded g) g.vaddr g.mem_size a by.loaded by.low (omega (arith, by.high, inside.fits))
 
-pub loaded_place : (file : List ℕ) (a i : ℕ) → ReadableFacts file → IsLoadedAt file a i → place_at (segments_of file) a ≡ Some (InFile i)
+pub loaded_place : (file : List ℕ) (a i : ℕ) → ReadableFacts file → IsLoadedAt file a i
+    → place_at (segments_of file) a ≡ Some (InFile i)
 loaded_place file a i facts (g, one, by) =
     place_there file a g facts one (in_segment file a i g facts one by) ∙ ap Some (in_file g a i by)
   where
     in_file : (g : Segment) (a i : ℕ) → IsLoadedBy g a i → place_in g a ≡ InFile i
     in_file g a i by =
-        let part : nat_lt (a - g.vaddr) g.file_size ≡ true = let l : a - g.vaddr < g.file_size = omega (arith, by.low, by.high) in grind (arith, nat_tests) in
+        let part : nat_lt (a - g.vaddr) g.file_size ≡ true = let l : a - g.vaddr < g.file_size =
+        omega (arith, by.low, by.high) in grind (arith, nat_tests) in
         let same : g.offset + (a - g.vaddr) ≡ i = omega (arith, by.low, by.offset) in
         rw (part, same) refl
 
 pub loaded_inside : (file : List ℕ) (a i : ℕ) → ReadableFacts file → IsLoadedAt file a i → i < length file
 loaded_inside file a i facts (g, one, by) =
-    let inside : IsInside (length file) g = all_of (IsLoadedInside (length file)) (segments_of file) g facts.segments one by.loaded in
+    let inside : IsInside (length file) g = all_of (IsLoadedInside (length file))
+    (segments_of file) g facts.segments one by.loaded in
     omega (arith, by.low, by.high, by.offset, inside.file)
 
 -- a byte of the file is loaded at one address
 pub one_address : (file : List ℕ) (a b i : ℕ) → ReadableFacts file → IsLoadedAt file a i → IsLoadedAt file b i → a ≡ b
-one_address file a b i facts (g, one, by) (h, two, at_h) = at (one_or_two IsApart (segments_of file) g h facts.apart one two)
+one_address file a b i facts (g, one, by) (h, two, at_h) =
+    at (one_or_two IsApart (segments_of file) g h facts.apart one two)
   where
     meet : (s t : Segment) (x y : ℕ) → IsApart s t → IsLoadedBy s x i → IsLoadedBy t y i → ⊥
     meet s t x y apart u v =
-        no_offset i s t apart u.loaded v.loaded (omega (arith, u.low, u.offset)) (omega (arith, u.low, u.high, u.offset))
+        no_offset i s t apart u.loaded v.loaded (omega (arith, u.low, u.offset))
+        (omega (arith, u.low, u.high, u.offset))
         (omega (arith, v.low, v.offset)) (omega (arith, v.low, v.high, v.offset))
 
     at : (g ≡ h) ⊎ (IsApart g h ⊎ IsApart h g) → a ≡ b
-    at (inl same) = let here : IsLoadedBy g b i = subst (λ s. IsLoadedBy s b i) (sym same) at_h in omega (arith, by.offset, here.offset)
+    at (inl same) = let here : IsLoadedBy g b i =
+        subst (λ s. IsLoadedBy s b i) (sym same) at_h in omega (arith, by.offset, here.offset)
     at (inr (inl apart)) = absurd (meet g h a b apart by at_h)
     at (inr (inr apart)) = absurd (meet h g b a apart at_h by)

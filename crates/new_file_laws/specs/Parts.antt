@@ -1,18 +1,12 @@
 -- What patches and a new text must be for the new file of an accepted executable to be made of them.
-use Rattle.std.specs.Prelude.{◌≡◌, ℕ, ◌+◌, ◌≤◌, List, true, false, length, All, Any, Some}
+use Rattle.std.specs.Prelude.{◌≡◌, ℕ, ◌+◌, ◌≤◌, List, true, length, All, Any}
 use Rattle.elf_spec.specs.declared.NewSegment.{NewSegment}
 use Rattle.elf_spec.specs.declared.Patch.{Patch}
 use Rattle.elf_spec.specs.Code.{is_executable}
 use Rattle.elf_spec.specs.Records.{sections_of}
-use Rattle.site_spec.specs.declared.Site.{Site}
-use Rattle.site_spec.specs.Sites.{site_at}
 use Rattle.elf_write.specs.Inputs.{IsInside, IsSmall}
 use Rattle.elf_write.specs.Kept.{AreAddedAbove, AreTablesUnpatched}
 use Rattle.elf_write.specs.Layout.{AreApart}
-
--- no site is a pair
-abbrev pub HasNoPairs : List ℕ → Type 0
-HasNoPairs file = (a : ℕ) (s : Site) → site_at file a ≡ Some s → s.pair ≡ false
 
 -- the patch lies in an executable section
 abbrev pub IsInCode : List ℕ → Patch → Type 0

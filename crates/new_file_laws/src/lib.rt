@@ -1,5 +1,5 @@
-// The new file of an accepted executable without heap functions and pair sites keeps the behaviour of its
-// source: laws over the definitions.
+// The new file of an accepted executable without heap functions keeps the behaviour of its source: laws
+// over the definitions.
 #![tactic(auto)]
 
 mod laws;

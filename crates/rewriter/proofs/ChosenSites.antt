@@ -1,9 +1,13 @@
 -- What a site of an accepted file gives for its jump and its stub.
-use Rattle.std.proofs.Common.{◌≡◌, ℕ, ◌%◌, ◌^◌, ◌<◌, ◌&&◌, Bool, true, false, List, [], ◌∷◌, Option, Some, None, is_some, refl, sym, ap, ◌∙◌, arith, subst}
+use Rattle.std.proofs.Common.{◌≡◌, ◌⊎◌, inl, inr, ℕ, ◌+◌, ◌%◌, ◌^◌, ◌<◌, ◌≤◌, true, false, List, Option, Some, is_some, refl, sym, ap, ◌∙◌, arith, subst, append-nil, append_assoc}
 use Rattle.std.specs.Prelude.{flat_map, ◌++◌}
-use Rattle.rv_isa.specs.declared.Instr.TheVariants.{Jal}
+use Rattle.rv_isa.specs.declared.Instr.TheVariants.{Auipc, Jal, Jalr}
 use Rattle.rv_isa.specs.Encoded.{encoded, IsFormed}
+use Rattle.rv_isa.specs.Split.{split_of}
+use Rattle.elf_spec.specs.declared.Patch.{Patch}
 use Rattle.elf_spec.specs.Code.{code_place, code_word}
+use Rattle.elf_spec.specs.Memory.{image_end}
+use Rattle.elf_spec.specs.Records.{segments_of}
 use Rattle.elf_spec.proofs.CodePlaces.{place_of}
 use Rattle.site_spec.specs.declared.Site.{Site}
 use Rattle.rv_isa.specs.Addresses.{minus}
@@ -11,72 +15,75 @@ use Rattle.site_spec.specs.Places.{reaches, text_at, stub_at}
 use Rattle.site_spec.specs.Plans.{IsInReach}
 use Rattle.plan_core.specs.declared.types.PlanLine.{PlanLine}
 use Rattle.new_file_spec.proofs.Jumps.{jump_formed}
-use Rattle.new_file_spec.specs.Rewritten.{site_patches, site_stub}
+use Rattle.new_file_spec.specs.Rewritten.{patch_to, site_patches, site_stub}
 use Rattle.new_file_spec.specs.Stubs.{stub_words}
 use Rattle.elf_spec.specs.Fields.{word_bytes}
-use Rattle.site_spec.specs.Sites.{is_call_of_code, kept_site, site_at}
+use Rattle.site_spec.specs.Sites.{site_at}
 use Rattle.exec_image.specs.Accepted.{AcceptedFacts}
-use Rattle.new_file_laws.specs.Parts.{HasNoPairs}
-use Rattle.new_file_laws.proofs.JalSites.{jal_at}
+use Rattle.new_file_laws.proofs.CodeMemory.{code_below}
+use Rattle.new_file_laws.proofs.SiteKinds.{site_addr, site_back, site_there, target_there}
 
 word_aligned : (file : List ℕ) (a : ℕ) → AcceptedFacts file → is_some (code_word file a) ≡ true → a % 4 ≡ 0
 word_aligned file a facts h = let (place, e) = place_of file a h in (facts.code a place e).aligned
 
-pub site_addr : (file : List ℕ) (a : ℕ) (s : Site) → HasNoPairs file → site_at file a ≡ Some s → s.addr ≡ a
-site_addr file a s single h = (jal_at file a s (single a s h) h).1
+pub site_aligned : (file : List ℕ) (a : ℕ) (s : Site) → AcceptedFacts file → site_at file a ≡ Some s → a % 4 ≡ 0
+site_aligned file a s facts h = word_aligned file a facts (site_there file a s h)
 
-pub site_aligned : (file : List ℕ) (a : ℕ) (s : Site) → AcceptedFacts file → HasNoPairs file → site_at file a ≡ Some s → a % 4 ≡ 0
-site_aligned file a s facts single h =
-    let jal = (jal_at file a s (single a s h) h).0 in word_aligned file a facts (rw jal.there refl)
+pub site_low : (file : List ℕ) (a : ℕ) (s : Site) → AcceptedFacts file → site_at file a ≡ Some s → s.addr < 2 ^ 31
+site_low file a s facts h =
+    let (place, e) = place_of file a (site_there file a s h) in
+    let below : a + 4 ≤ image_end (segments_of file) = code_below file a place facts e in
+    omega (arith, below, facts.end, site_addr file a s h)
 
-calls_code : (file : List ℕ) (o : Option Site) (s : Site) → kept_site file o ≡ Some s → is_call_of_code file s ≡ true
-calls_code file None s h = absurd (cc)
-calls_code file (Some t) s h = decide (is_call_of_code file t) refl
-  where
-    decide : (b : Bool) → is_call_of_code file t ≡ b → is_call_of_code file s ≡ true
-    decide true e = let q : Some t ≡ Some s = rw e at h in let r : t ≡ s = cc in ap (is_call_of_code file) (sym r) ∙ e
-    decide false e = absurd (let q : None ≡ Some s = rw e at h in cc)
-
-first_of : (b c : Bool) → (b && c) ≡ true → b ≡ true
-first_of true c h = refl
-first_of false c h = h
-
-target_there : (file : List ℕ) (a : ℕ) (s : Site) → site_at file a ≡ Some s → is_some (code_word file s.target) ≡ true
-unfolding site_at
-target_there file a s h = first_of (is_some (code_word file s.target)) _ (calls_code file _ s h)
-
-pub target_aligned : (file : List ℕ) (a : ℕ) (s : Site) → AcceptedFacts file → site_at file a ≡ Some s → s.target % 4 ≡ 0
+pub target_aligned : (file : List ℕ) (a : ℕ) (s : Site) → AcceptedFacts file → site_at file a ≡ Some s
+    → s.target % 4 ≡ 0
 target_aligned file a s facts h = word_aligned file s.target facts (target_there file a s h)
 
-pub back_aligned : (file : List ℕ) (a : ℕ) (s : Site) → AcceptedFacts file → HasNoPairs file → site_at file a ≡ Some s → s.back % 4 ≡ 0
-back_aligned file a s facts single h =
-    let jal = (jal_at file a s (single a s h) h).0 in
-    let even : a % 4 ≡ 0 = site_aligned file a s facts single h in
-    omega (arith, even, jal.back)
+pub back_aligned : (file : List ℕ) (a : ℕ) (s : Site) → AcceptedFacts file → site_at file a ≡ Some s → s.back % 4 ≡ 0
+back_aligned file a s facts h = behind (site_back file a s h)
+  where
+    even : a % 4 ≡ 0
+    even = site_aligned file a s facts h
 
--- the jump to a chosen site's stub is an instruction
-pub formed_jump : (file : List ℕ) (line : PlanLine) (k to : ℕ) (s : Site) → AcceptedFacts file → HasNoPairs file
-    → IsInReach file (Some line) k → Some s ≡ site_at file line.addr → to ≡ stub_at (text_at file) k → to % 4 ≡ 0
-    → to < 2 ^ 31 → IsFormed (Jal 0 (minus to s.addr))
-formed_jump file line k to s facts single reach e place even low =
+    behind : (s.back ≡ a + 4) ⊎ (s.back ≡ a + 8) → s.back % 4 ≡ 0
+    behind (inl e) = omega (arith, even, e)
+    behind (inr e) = omega (arith, even, e)
+
+-- the jump to the stub of a chosen site that is no pair is an instruction
+pub formed_jump : (file : List ℕ) (line : PlanLine) (k to : ℕ) (s : Site) → AcceptedFacts file
+    → IsInReach file (Some line) k → Some s ≡ site_at file line.addr
+    → to ≡ stub_at (text_at file) k → to % 4 ≡ 0 → to < 2 ^ 31 → s.pair ≡ false → IsFormed (Jal 0 (minus to s.addr))
+formed_jump file line k to s facts reach e place even low single =
     let h : site_at file line.addr ≡ Some s = sym e in
-    let near : reaches line.addr to ≡ true = subst (λ z. reaches line.addr z ≡ true) (sym place) (reach s h (single line.addr s h)) in
-    subst (λ x. IsFormed (Jal 0 (minus to x))) (sym (site_addr file line.addr s single h))
-    (jump_formed to line.addr low (site_aligned file line.addr s facts single h) even near)
+    let near : reaches line.addr to ≡ true = subst (λ z. reaches line.addr z ≡ true) (sym place) (reach s h single) in
+    subst (λ x. IsFormed (Jal 0 (minus to x))) (sym (site_addr file line.addr s h))
+    (jump_formed to line.addr low (site_aligned file line.addr s facts h) even near)
 
--- the one patch of a site that is no pair
-pub one_patch : (file : List ℕ) (to place : ℕ) (s : Site) → s.pair ≡ false → code_place file s.addr ≡ Some place
-    → site_patches file to (Some s) ≡ record { offset = place; word = encoded (Jal 0 (minus to s.addr)) } ∷ []
-one_patch file to place s pair e = rw (pair, e) refl
+-- the one patch of a site that is no pair, and the two of a pair
+pub one_patch : (file : List ℕ) (to : ℕ) (s : Site) → s.pair ≡ false
+    → site_patches file to (Some s) ≡ patch_to (encoded (Jal 0 (minus to s.addr))) (code_place file s.addr)
+one_patch file to s single =
+    rw single (append-nil (patch_to (encoded (Jal 0 (minus to s.addr))) (code_place file s.addr)))
 
-pub no_patch : (file : List ℕ) (to : ℕ) (s : Site) → s.pair ≡ false → code_place file s.addr ≡ None → site_patches file to (Some s) ≡ []
-no_patch file to s pair e = rw (pair, e) refl
+pub two_patches : (file : List ℕ) (to : ℕ) (s : Site) (old : List Patch) → s.pair ≡ true
+    → (old ++ patch_to (encoded (Auipc 1 (split_of (minus to s.addr)).0)) (code_place file s.addr))
+    ++ patch_to (encoded (Jalr 0 1 (split_of (minus to s.addr)).1)) (code_place file (s.addr + 4))
+    ≡ old ++ site_patches file to (Some s)
+two_patches file to s old double =
+    let first : List Patch = patch_to (encoded (Auipc 1 (split_of (minus to s.addr)).0)) (code_place file s.addr) in
+    let second : List Patch = patch_to (encoded (Jalr 0 1 (split_of (minus to s.addr)).1))
+    (code_place file (s.addr + 4)) in
+    append_assoc old first second
+    ∙ ap (λ ps. old ++ ps) (ap (λ ps. first ++ ps) (sym (append-nil second)) ∙ rw double refl)
 
 -- the bytes of a site's stub
-pub stub_bytes : (old new : List ℕ) (words : List ℕ) (place at bit : ℕ) (o : Option Site) (s : Site) → new ≡ old ++ flat_map word_bytes words
+pub stub_bytes : (old new : List ℕ) (words : List ℕ) (place at bit : ℕ) (o : Option Site) (s : Site)
+    → new ≡ old ++ flat_map word_bytes words
     → words ≡ stub_words place bit s.target s.back → place ≡ at → Some s ≡ o → new ≡ old ++ site_stub at bit o
 stub_bytes old new words place at bit o s e w p q =
     subst (λ o. new ≡ old ++ site_stub at bit o) q
     (subst (λ a. new ≡ old ++ site_stub a bit (Some s)) p (e ∙ ap (λ ws. old ++ flat_map word_bytes ws) w))
 
-pub ruleset sites = (site_addr, site_aligned, target_aligned, back_aligned, jump_formed, one_patch, no_patch)
+pub ruleset sites = (site_addr, site_low, target_aligned, back_aligned)
+
+pub ruleset jumps = (one_patch, two_patches)

@@ -35,19 +35,23 @@ header_kept n i ps long l apart = record {
   no_patch = beside_header i ps (omega (arith, l)) apart;
 }
 
-pub entry_kept : (file : List ℕ) (patches : List Patch) (segments : List NewSegment) (new : List ℕ) → NewLayout file patches segments new → 52 ≤ length file
+pub entry_kept : (file : List ℕ) (patches : List Patch) (segments : List NewSegment) (new : List ℕ)
+    → NewLayout file patches segments new → 52 ≤ length file
     → AreApart patches → e_entry new ≡ e_entry file
 entry_kept file patches segments new layout long apart =
     layout.kept_words 24 (λ k l. header_kept (length file) (24 + k) patches long (omega (arith, l)) apart)
 
 -- what holds of the parts of a plan as they were made holds of them as they are defined
-pub of_plan : (P : List ℕ → List Patch → List NewSegment → Type 0) (file : List ℕ) (plan : Plan) (from : List ℕ) (patches : List Patch) (segments : List NewSegment)
+pub of_plan : (P : List ℕ → List Patch → List NewSegment → Type 0) (file : List ℕ) (plan : Plan) (from : List ℕ)
+    (patches : List Patch) (segments : List NewSegment)
     → from ≡ file → patches ≡ patches_for file plan → segments ≡ segments_for file plan → P from patches segments
     → P file (patches_for file plan) (segments_for file plan)
 of_plan P file plan from patches segments e f g h =
-    subst (λ s. P file (patches_for file plan) s) g (subst (λ p. P file p segments) f (subst (λ b. P b patches segments) e h))
+    subst (λ s. P file (patches_for file plan) s) g
+    (subst (λ p. P file p segments) f (subst (λ b. P b patches segments) e h))
 
-pub new_file_is : (file : List ℕ) (plan : Plan) (new : List ℕ) → new ≡ new_file file (patches_for file plan) (segments_for file plan) → heap_entries file ≡ []
+pub new_file_is : (file : List ℕ) (plan : Plan) (new : List ℕ)
+    → new ≡ new_file file (patches_for file plan) (segments_for file plan) → heap_entries file ≡ []
     → NewFile file plan new
 unfolding rewritten
 new_file_is file plan new e no_heap = record { no_heap = no_heap; bytes = e }
@@ -66,7 +70,8 @@ does_the_same file plan new keeps input bytes n safe =
     }
 
 -- a file that passes all checks is rewritten as the new file of its image
-pub rewritten_is : (file image : List ℕ) (plan : Plan) (new : List ℕ) → image ≡ file → IsAccepted file → plan_fault image plan ≡ None → not_yet image ≡ None
+pub rewritten_is : (file image : List ℕ) (plan : Plan) (new : List ℕ) → image ≡ file → IsAccepted file
+    → plan_fault image plan ≡ None → not_yet image ≡ None
     → Fits image plan → NewFile image plan new → Keeps image plan new → (AreFieldsAlone image → IsReadable new)
     → length new ≤ 34603008 → IsRewritten file plan new
 rewritten_is file image plan new same accepted sound known fits is_new keeps readable short =

@@ -18,7 +18,8 @@ use Rattle.rewriter.specs.Left.{not_yet}
 -- plan fails, then the lowest code word that isn't rewritten yet
 abbrev pub rewrite_refusal : List ℕ → Plan → Option RewriteRefusal
 rewrite_refusal file plan =
-    option_map File (file_refusal file) or_else option_map Misfit (plan_fault file plan) or_else option_map NotYet (not_yet file)
+    option_map File (file_refusal file) or_else option_map Misfit (plan_fault file plan) or_else option_map NotYet
+    (not_yet file)
 
 -- a file is rewritten by a plan as a new file
 pub record IsRewritten (file : List ℕ) (plan : Plan) (new : List ℕ) : Type 0 where

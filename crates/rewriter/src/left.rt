@@ -1,31 +1,15 @@
 // The first code word that isn't rewritten yet.
-ghost use Rattle.std.specs.Prelude.{◌≡◌, Some};
-ghost use Rattle.elf_spec.specs.Code.{code_word};
-ghost use Rattle.site_spec.specs.Sites.{site_at};
-ghost use Rattle.sym_spec.specs.SymTurns.{is_pair};
+ghost use Rattle.std.specs.Prelude.{◌≡◌};
 ghost use Rattle.rewriter.specs.Left.{is_left_at, not_yet};
 
 use exec_image::Image;
-
-/// Whether a pair begins at an address.
-fn is_pair(image: &Image, addr: u32) -> bool
-    ensures { result ≡ is_pair (site_at image.now addr) }
-{
-    match image.site(addr) {
-        Some(site) => site.pair,
-        None => false,
-    }
-}
 
 /// Whether the code word at an address isn't rewritten yet.
 #[tactic(auto, unfolding(crate::specs::Left::is_left_at))]
 fn is_left(image: &Image, addr: u32) -> bool
     ensures { result ≡ is_left_at image.now addr }
 {
-    match image.code_word(addr) {
-        Some(_) => image.is_heap_word(addr) || is_pair(image, addr),
-        None => false,
-    }
+    image.code_word(addr).is_some() && image.is_heap_word(addr)
 }
 
 /// The lowest address of a code word that isn't rewritten yet. The time is linear in the number of code

@@ -14,8 +14,7 @@ pub enum RewriteRefusal {
     /// The plan doesn't fit the file.
     #[error("plan: {0}")]
     Plan(PlanFault),
-    /// The code word at this address is a heap function's, or the first of a pair site, or none of the
-    /// ten instructions JAL, JALR, AUIPC, ADDI, XORI, SLLI, OR, AND, SB and ECALL.
+    /// The code word at this address is a heap function's.
     #[error("file: not yet at {0:08x}")]
     NotYet(u32),
     /// There is no memory for the new file.

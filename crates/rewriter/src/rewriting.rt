@@ -72,7 +72,8 @@ fn of_file(why: FileRefusal) -> RewriteRefusal
 pub fn rewrite(alloc: Global, file: &[u8], plan: &Plan) -> Result<Vec<u8>, RewriteRefusal>
     requires { length file.now ≤ 33554432 }
     ensures done { IfOk result (λ new. IsRewritten file.now plan.now new.items) }
-    ensures refused { IfErr result (λ why. (rewrite_refusal file.now plan.now ≡ Some why) ⊎ (why ≡ RewriteRefusal.Memory)) }
+    ensures refused { IfErr result (λ why. (rewrite_refusal file.now plan.now ≡ Some why)
+        ⊎ (why ≡ RewriteRefusal.Memory)) }
 {
     let image = match accept(alloc, file) {
         Ok(image) => image,

@@ -32,7 +32,7 @@ const BLOCKS: [u32; 10] = [
     0x00100073, 0x00100073,
 ];
 
-/// Calls `malloc`, which is at 0x10118, by a pair at 0x10104.
+/// Calls what is at 0x10118 by a pair at 0x10104.
 const PAIR: [u32; 8] = [
     0x01800513, 0x00000097, 0x014080e7, 0x00000513, 0x05d00893, 0x00000073, 0x00100073, 0x00100073,
 ];
@@ -77,10 +77,18 @@ fn small_file(alloc: Global) -> Result<Vec<u8>, AllocError> {
     builder.finish(alloc)
 }
 
-/// The file of the program with a pair.
-fn pair_file(alloc: Global) -> Result<Vec<u8>, AllocError> {
+/// The file of the program whose pair calls its `malloc`.
+fn malloc_file(alloc: Global) -> Result<Vec<u8>, AllocError> {
     let mut builder = begin(alloc, &PAIR)?;
     builder.symbol(alloc, "malloc", 0x10118, 8)?;
+    builder.reloc(call(0x10104, CALL_PLT))?;
+    builder.finish(alloc)
+}
+
+/// The file of the same program whose pair calls another function.
+fn pair_file(alloc: Global) -> Result<Vec<u8>, AllocError> {
+    let mut builder = begin(alloc, &PAIR)?;
+    builder.symbol(alloc, "spare", 0x10118, 8)?;
     builder.reloc(call(0x10104, CALL_PLT))?;
     builder.finish(alloc)
 }
@@ -164,6 +172,22 @@ fn a_chosen_call_goes_to_its_stub(rt: HostRuntime) -> Result<(), Fail> {
 }
 
 #[test]
+fn a_chosen_pair_goes_to_its_stub(rt: HostRuntime) -> Result<(), Fail> {
+    let file = pair_file(rt.alloc())?;
+    let new = new_file(&rt, rt.alloc(), &file, EMPTY)?;
+    assert!(rt; has_words(&new, 260, &[0x00000097, 0x014080e7]));
+    let plan = b"halo-plan 1\narea 0 0 0\nsite 0 00010104\nend\n";
+    let new = new_file(&rt, rt.alloc(), &file, plan)?;
+    assert!(rt; has_words(&new, 256, &[0x01800513, 0x00001097, 0xf0c08067, 0x00000513]));
+    let stub = [
+        0x00100093, 0x00009093, 0x00126233, 0xfffff097, 0x0fc080e7, 0x00100093, 0x00009093,
+        0xfff0c093, 0x00127233, 0xfffff097, 0x0d808067,
+    ];
+    assert!(rt; has_words(&new, 4112, &stub));
+    Ok(())
+}
+
+#[test]
 fn a_plan_without_sites_adds_the_mark(rt: HostRuntime) -> Result<(), Fail> {
     let file = begin(rt.alloc(), &EXIT)?.finish(rt.alloc())?;
     let new = new_file(&rt, rt.alloc(), &file, EMPTY)?;
@@ -196,8 +220,8 @@ fn the_lowest_word_that_is_left_is_named(rt: HostRuntime) -> Result<(), Fail> {
     let alloc = rt.alloc();
     let small = small_file(alloc)?;
     check_refusal(&rt, alloc, &small, EMPTY, "file: not yet at 0001010c")?;
-    let pair = pair_file(alloc)?;
-    check_refusal(&rt, alloc, &pair, EMPTY, "file: not yet at 00010104")?;
+    let malloc = malloc_file(alloc)?;
+    check_refusal(&rt, alloc, &malloc, EMPTY, "file: not yet at 00010118")?;
     let blocks = blocks_file(alloc)?;
     check_refusal(&rt, alloc, &blocks, EMPTY, "file: not yet at 00010120")
 }

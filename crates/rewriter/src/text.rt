@@ -5,7 +5,6 @@ ghost use Rattle.site_spec.specs.Places.{text_at, stub_at};
 ghost use Rattle.new_file_spec.specs.Rewritten.{mark, site_stub, stubs_from, text_segment};
 ghost use Rattle.site_spec.specs.Sites.{site_at};
 ghost use Rattle.exec_image.specs.Accepted.{AcceptedFacts};
-ghost use Rattle.new_file_laws.specs.Parts.{HasNoPairs};
 
 use crate::places::stub_place;
 use bitflags::Flags;
@@ -49,7 +48,6 @@ fn push_stub(
     number: usize,
 ) -> Result<(), AllocError>
     requires facts { AcceptedFacts image.now }
-    requires no_pairs { HasNoPairs image.now }
     requires few { number < 32 }
     requires bit { line.bit < 32 }
     ensures is { OnOk result (text.new.items ≡ text.old.items
@@ -66,7 +64,6 @@ fn push_stub(
 /// The bytes of the new text.
 fn text_bytes(alloc: Global, image: &Image, lines: &[PlanLine]) -> Result<Vec<u8>, AllocError>
     requires facts { AcceptedFacts image.now }
-    requires no_pairs { HasNoPairs image.now }
     requires few { length lines.now ≤ 32 }
     requires bits { All (λ line. line.bit < 32) lines.now }
     ensures is { IfOk result (λ text. text.items ≡ mark ++ stubs_from image.now 0 lines.now) }
@@ -94,10 +91,10 @@ pub fn text_segment(
     lines: &[PlanLine],
 ) -> Result<NewSegment, AllocError>
     requires facts { AcceptedFacts image.now }
-    requires no_pairs { HasNoPairs image.now }
     requires few { length lines.now ≤ 32 }
     requires bits { All (λ line. line.bit < 32) lines.now }
-    ensures { IfOk result (λ segment. segment ≡ text_segment (text_at image.now) (mark ++ stubs_from image.now 0 lines.now)) }
+    ensures { IfOk result (λ segment. segment ≡ text_segment (text_at image.now)
+        (mark ++ stubs_from image.now 0 lines.now)) }
 {
     let text = text_bytes(alloc, image, lines)?;
     Ok(NewSegment {

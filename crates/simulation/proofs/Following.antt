@@ -1,6 +1,6 @@
 -- A turn of the symbol machine is followed by turns of the flat machine, at least one and no more than the
 -- turn bound.
-use Rattle.std.proofs.Common.{◌≡◌, ℕ, ◌+◌, ◌≤◌, List, ◌++◌, Bool, true, false, cond, refl, ap, sym, ◌∙◌, arith}
+use Rattle.std.proofs.Common.{◌≡◌, ℕ, ◌+◌, ◌≤◌, List, ◌++◌, Bool, true, false, cond, refl, ap, ◌∙◌, subst, arith}
 use Rattle.std.specs.Prelude.{Option, Some, None}
 use Rattle.rv_isa.specs.declared.Instr.{Instr}
 use Rattle.rv_isa.specs.declared.Instr.TheVariants.{Lui, Auipc, Jal, Jalr, Branch, Load, Store, OpImm, Reg, Fence, Ecall, Ebreak}
@@ -15,7 +15,7 @@ use Rattle.flat_spec.specs.Machine.{Machine}
 use Rattle.flat_spec.specs.Turns as flat
 use Rattle.flat_spec.specs.Runs.{step, steps}
 use Rattle.flat_spec.proofs.Pieces.{fetched_same}
-use Rattle.sym_spec.specs.Cells.{Cells}
+use Rattle.sym_cells.specs.Memory.{Memory}
 use Rattle.sym_spec.specs.SymMachine.{SymMachine}
 use Rattle.sym_spec.specs.SymCalls.{SymTurn}
 use Rattle.sym_spec.specs.SymTurns.{Nothing, Pair, Code, here, here_with, is_second, executes, acts}
@@ -30,7 +30,8 @@ use Rattle.site_stubs.specs.StubRuns.{state_of}
 use Rattle.flat_spec.proofs.Runs.{one_step}
 
 -- so many flat turns lead to a machine in step, with the same input left and the same bytes written
-pub record Follows (file : List ℕ) (plan : Plan) (new : List ℕ) (t : SymTurn) (m : Machine) (input output : List ℕ) : Type 0 where
+pub record Follows (file : List ℕ) (plan : Plan) (new : List ℕ) (t : SymTurn) (m : Machine)
+    (input output : List ℕ) : Type 0 where
   pub turns : ℕ
   pub some : 1 ≤ turns
   pub few : turns ≤ turn_bound plan.area
@@ -48,75 +49,99 @@ follows_one file plan new t m input output h = record {
   few = omega arith;
   machine = (flat.turn input m).next;
   is = one_step (state_of m input output)
-      ∙ (ap (λ l. state_of (flat.turn input m).next l (output ++ (flat.turn input m).written)) h.left ∙ ap (λ w. state_of (flat.turn input m).next t.left (output ++ w)) h.written);
+      ∙ (ap (λ l. state_of (flat.turn input m).next l (output ++ (flat.turn input m).written)) h.left
+      ∙ ap (λ w. state_of (flat.turn input m).next t.left (output ++ w)) h.written);
   next = h.next;
 }
 
 -- what is fetched from the code and from the new text is the new file's
-pub fetch_code : (file : List ℕ) (plan : Plan) (new : List ℕ) (places : Places) (cells : Cells) (memory : List Range) (a w : ℕ) → Ground file plan new → InMemory file new places cells memory
+pub fetch_code : (file : List ℕ) (plan : Plan) (new : List ℕ) (places : Places) (held : Memory) (memory : List Range)
+    (a w : ℕ) → Ground file plan new → InMemory file new places held memory
     → code_word file a ≡ Some w → fetched memory a ≡ fetched (memory_of new) a
-fetch_code file plan new places cells memory a w g h code =
+fetch_code file plan new places held memory a w g h code =
     fetched_same memory (memory_of new) a h.shape (λ k low high. h.code k (g.code_bytes a w k code low high))
 
-pub fetch_text : (file new : List ℕ) (places : Places) (cells : Cells) (memory : List Range) (a : ℕ) → InMemory file new places cells memory
+pub fetch_text : (file new : List ℕ) (places : Places) (held : Memory) (memory : List Range) (a : ℕ)
+    → InMemory file new places held memory
     → text_at file ≤ a → a + 4 ≤ text_at file + text_room → fetched memory a ≡ fetched (memory_of new) a
-fetch_text file new places cells memory a h low high =
+fetch_text file new places held memory a h low high =
     fetched_same memory (memory_of new) a h.shape (λ k l t. h.text k (omega (arith, low, l)) (omega (arith, high, t)))
 
--- what stands at an address
+-- a code word stands at an address, which is neither a second word nor a pair's
 pub record IsCodeHere (file : List ℕ) (a w : ℕ) : Type 0 where
   pub code : code_word file a ≡ Some w
   pub alone : is_second file a ≡ false
+  pub single : (s : Site) → site_at file a ≡ Some s → s.pair ≡ false
 
 pub here_code : (file : List ℕ) (a w : ℕ) → here file a ≡ Code w → IsCodeHere file a w
 unfolding here
 here_code file a w e = at (is_second file a) refl e
   where
-    inner : (o : Option ℕ) (p : Option Site) → here_with o p ≡ Code w → o ≡ Some w
-    inner (Some v) (Some s) e = pair s.pair e
+    inner : (o : Option ℕ) (p : Option Site) → here_with o p ≡ Code w
+        → (o ≡ Some w) × ((s : Site) → p ≡ Some s → s.pair ≡ false)
+    inner (Some v) (Some t) e = by_pair t.pair refl e
       where
-        pair : (b : Bool) → cond b (Pair s) (Code v) ≡ Code w → Some v ≡ Some w
-        pair true e = absurd (cc)
-        pair false e = cc
-    inner (Some v) None e = cc
+        by_pair : (b : Bool) → t.pair ≡ b → cond b (Pair t) (Code v) ≡ Code w
+            → (Some v ≡ Some w) × ((s : Site) → Some t ≡ Some s → s.pair ≡ false)
+        by_pair true q e = absurd (cc)
+        by_pair false q e = (cc, λ s h. let same : t ≡ s = cc in subst (λ (x : Site). x.pair ≡ false) same q)
+    inner (Some v) None e = (cc, λ s h. absurd (cc))
     inner None p e = absurd (cc)
 
-    at : (b : Bool) → is_second file a ≡ b → cond b Nothing (here_with (code_word file a) (site_at file a)) ≡ Code w → IsCodeHere file a w
+    at : (b : Bool) → is_second file a ≡ b → cond b Nothing (here_with (code_word file a) (site_at file a)) ≡ Code w
+        → IsCodeHere file a w
     at true q e = absurd (cc)
-    at false q e = record { code = inner (code_word file a) (site_at file a) e; alone = q }
+    at false q e =
+        let (code, single) = inner (code_word file a) (site_at file a) e in
+        record { code = code; alone = q; single = single }
 
-pub no_pair : (file : List ℕ) (plan : Plan) (new : List ℕ) (a : ℕ) (s : Site) → Ground file plan new → here file a ≡ Pair s → ⊥
+-- a pair stands at an address
+pub here_pair : (file : List ℕ) (a : ℕ) (s : Site) → here file a ≡ Pair s → (site_at file a ≡ Some s) × (s.pair ≡ true)
 unfolding here
-no_pair file plan new a s g e = at (is_second file a) e
+here_pair file a s e = at (is_second file a) e
   where
-    inner : (o : Option ℕ) (p : Option Site) → site_at file a ≡ p → here_with o p ≡ Pair s → ⊥
-    inner (Some v) (Some t) q e = pair t.pair refl e
+    inner : (o : Option ℕ) (p : Option Site) → here_with o p ≡ Pair s → (p ≡ Some s) × (s.pair ≡ true)
+    inner (Some v) (Some t) e = by_pair t.pair refl e
       where
-        pair : (b : Bool) → t.pair ≡ b → cond b (Pair t) (Code v) ≡ Pair s → ⊥
-        pair true r e = let no : t.pair ≡ false = (g.jal_sites a t q).pair in let clash : true ≡ false = sym r ∙ no in cc
-        pair false r e = cc
-    inner (Some v) None q e = cc
-    inner None p q e = cc
+        by_pair : (b : Bool) → t.pair ≡ b → cond b (Pair t) (Code v) ≡ Pair s → (Some t ≡ Some s) × (s.pair ≡ true)
+        by_pair true q e = let same : t ≡ s = cc in (ap (λ x. Some x) same, subst (λ (x : Site). x.pair ≡ true) same q)
+        by_pair false q e = absurd (cc)
+    inner (Some v) None e = absurd (cc)
+    inner None p e = absurd (cc)
 
-    at : (b : Bool) → cond b Nothing (here_with (code_word file a) (site_at file a)) ≡ Pair s → ⊥
-    at true e = cc
-    at false e = inner (code_word file a) (site_at file a) refl e
+    at : (b : Bool) → cond b Nothing (here_with (code_word file a) (site_at file a)) ≡ Pair s
+        → (site_at file a ≡ Some s) × (s.pair ≡ true)
+    at true e = absurd (cc)
+    at false e = inner (code_word file a) (site_at file a) e
 
 -- an instruction that is neither a system call nor a jump to a register does what `acts` says
-pub plain_turn : (file : List ℕ) (plan : Plan) (new input : List ℕ) (s : SymMachine) (m : Machine) (i : Instr) → IsPlainInstr i
-    → InStep file plan new (acts file plan i s) (flat.acts i m) → TurnsAlike file plan new (executes file plan input (Some i) s) (flat.executes input (Some i) m)
-plain_turn file plan new input s m (Lui rd imm) p h = quiet_alike file plan new input (acts file plan (Lui rd imm) s) (flat.acts (Lui rd imm) m) h
-plain_turn file plan new input s m (Auipc rd imm) p h = quiet_alike file plan new input (acts file plan (Auipc rd imm) s) (flat.acts (Auipc rd imm) m) h
-plain_turn file plan new input s m (Jal rd imm) p h = quiet_alike file plan new input (acts file plan (Jal rd imm) s) (flat.acts (Jal rd imm) m) h
+pub plain_turn : (file : List ℕ) (plan : Plan) (new input : List ℕ) (s : SymMachine) (m : Machine) (i : Instr)
+    → IsPlainInstr i
+    → InStep file plan new (acts file plan i s) (flat.acts i m)
+    → TurnsAlike file plan new (executes file plan input (Some i) s) (flat.executes input (Some i) m)
+plain_turn file plan new input s m (Lui rd imm) p h =
+    quiet_alike file plan new input (acts file plan (Lui rd imm) s) (flat.acts (Lui rd imm) m) h
+plain_turn file plan new input s m (Auipc rd imm) p h =
+    quiet_alike file plan new input (acts file plan (Auipc rd imm) s) (flat.acts (Auipc rd imm) m) h
+plain_turn file plan new input s m (Jal rd imm) p h =
+    quiet_alike file plan new input (acts file plan (Jal rd imm) s) (flat.acts (Jal rd imm) m) h
 plain_turn file plan new input s m (Jalr rd rs1 imm) p h = absurd p
-plain_turn file plan new input s m (Branch c rs1 rs2 imm) p h = quiet_alike file plan new input (acts file plan (Branch c rs1 rs2 imm) s) (flat.acts (Branch c rs1 rs2 imm) m) h
-plain_turn file plan new input s m (Load width rd rs1 imm) p h = quiet_alike file plan new input (acts file plan (Load width rd rs1 imm) s) (flat.acts (Load width rd rs1 imm) m) h
-plain_turn file plan new input s m (Store width rs1 rs2 imm) p h = quiet_alike file plan new input (acts file plan (Store width rs1 rs2 imm) s) (flat.acts (Store width rs1 rs2 imm) m) h
-plain_turn file plan new input s m (OpImm op rd rs1 imm) p h = quiet_alike file plan new input (acts file plan (OpImm op rd rs1 imm) s) (flat.acts (OpImm op rd rs1 imm) m) h
-plain_turn file plan new input s m (Reg op rd rs1 rs2) p h = quiet_alike file plan new input (acts file plan (Reg op rd rs1 rs2) s) (flat.acts (Reg op rd rs1 rs2) m) h
-plain_turn file plan new input s m (Fence rest) p h = quiet_alike file plan new input (acts file plan (Fence rest) s) (flat.acts (Fence rest) m) h
+plain_turn file plan new input s m (Branch c rs1 rs2 imm) p h =
+    quiet_alike file plan new input (acts file plan (Branch c rs1 rs2 imm) s) (flat.acts (Branch c rs1 rs2 imm) m) h
+plain_turn file plan new input s m (Load width rd rs1 imm) p h =
+    quiet_alike file plan new input (acts file plan (Load width rd rs1 imm) s) (flat.acts (Load width rd rs1 imm) m) h
+plain_turn file plan new input s m (Store width rs1 rs2 imm) p h =
+    quiet_alike file plan new input (acts file plan (Store width rs1 rs2 imm) s)
+    (flat.acts (Store width rs1 rs2 imm) m) h
+plain_turn file plan new input s m (OpImm op rd rs1 imm) p h =
+    quiet_alike file plan new input (acts file plan (OpImm op rd rs1 imm) s) (flat.acts (OpImm op rd rs1 imm) m) h
+plain_turn file plan new input s m (Reg op rd rs1 rs2) p h =
+    quiet_alike file plan new input (acts file plan (Reg op rd rs1 rs2) s) (flat.acts (Reg op rd rs1 rs2) m) h
+plain_turn file plan new input s m (Fence rest) p h =
+    quiet_alike file plan new input (acts file plan (Fence rest) s) (flat.acts (Fence rest) m) h
 plain_turn file plan new input s m Ecall p h = absurd p
-plain_turn file plan new input s m Ebreak p h = quiet_alike file plan new input (acts file plan Ebreak s) (flat.acts Ebreak m) h
+plain_turn file plan new input s m Ebreak p h =
+    quiet_alike file plan new input (acts file plan Ebreak s) (flat.acts Ebreak m) h
 
 pub plain_safe : (file : List ℕ) (plan : Plan) (input : List ℕ) (s : SymMachine) (i : Instr) → IsPlainInstr i
     → IsNoFault (executes file plan input (Some i) s).next.ending → IsNoFault (acts file plan i s).ending

@@ -1,93 +1,118 @@
 -- The part of a match that speaks of memory, and that stores on both machines keep it.
-use Rattle.std.proofs.Common.{◌≡◌, ◌≢◌, ◌⊎◌, ℕ, ◌+◌, ◌*◌, ◌/◌, ◌<◌, ◌≤◌, List, Bool, true, false, map, refl, ap, sym, ◌∙◌, subst, arith, inl, inr}
-use Rattle.std.specs.Prelude.{Option, Some, option_map, is_some, nat_eq}
-use Rattle.std.proofs.lemmas.Bool.Decides.{nat_tests}
+use Rattle.std.proofs.Common.{◌≡◌, ◌≢◌, ◌⊎◌, ℕ, ◌+◌, ◌-◌, ◌<◌, ◌≤◌, List, [], ◌∷◌, Bool, true, false, length, map, refl, ap, sym, ◌∙◌, subst, arith, inl, inr, ⊎_elim}
+use Rattle.std.specs.Prelude.{Some, is_some, nat_eq, slice_get, slice_index}
+use Rattle.std.specs.List.{All}
+use Rattle.std.proofs.lemmas.Bool.{cases_lt, eqb-true, eqb-false}
+use Rattle.std.proofs.lemmas.List.Elements.{All-head, All-tail}
+use Rattle.elf_spec.specs.Memory.{image_end}
+use Rattle.elf_spec.specs.Records.{segments_of}
 use Rattle.site_spec.specs.Places.{text_at}
-use Rattle.machine_spec.specs.Memory.{Range, shape_of, range_at, byte_of, memory_of, all_from}
-use Rattle.machine_spec.specs.Widths.{number_of}
-use Rattle.machine_spec.proofs.AllFrom.{and_first}
-use Rattle.flat_spec.specs.Stores.{put_byte}
-use Rattle.flat_spec.proofs.Memories.{put_byte_shape, put_there, put_elsewhere, same_writable}
-use Rattle.flat_spec.proofs.Pieces.{bytes_from_same, writable_there}
-use Rattle.sym_spec.specs.declared.Value.{Value}
-use Rattle.sym_spec.specs.declared.Value.TheVariants.{Ret}
-use Rattle.sym_spec.specs.Cells.{Symbol, Cells, known, put_known}
+use Rattle.machine_spec.specs.Memory.{Range, range_at, byte_of}
+use Rattle.flat_spec.specs.Stores.{allows_store, put_byte, put_bytes}
+use Rattle.flat_spec.proofs.Memories.{put_byte_shape, put_there, put_elsewhere, same_there}
+use Rattle.flat_spec.proofs.Pieces.{put_bytes_shape, put_bytes_elsewhere, writable_there}
+use Rattle.sym_cells.specs.Memory.{Memory, life_of}
+use Rattle.sym_cells.specs.Region.{InBlock, Laid, IsThere, MemoryStands}
 use Rattle.sym_spec.specs.Plain.{is_plain, is_plain_store, is_code_byte}
-use Rattle.sym_spec.proofs.CellLaws.{known_here, known_elsewhere, symbol_left}
 use Rattle.match_spec.specs.Stands.{Places}
-use Rattle.match_spec.specs.Parts.{InMemory, StandsInMemory, text_room}
+use Rattle.match_spec.specs.Parts.{InMemory, text_room}
 use Rattle.simulation.specs.Ground.{MemoryGround}
 
--- a word whose bytes stay still stands for its value
-pub stands_still : (places : Places) (m n : List Range) (a : ℕ) (v : Value)
-    → ((x : ℕ) → a ≤ x → x < a + 4 → byte_of n x ≡ byte_of m x) → StandsInMemory places m a v → StandsInMemory places n a v
-stands_still places m n a v same h = record {
-  word = h.word;
-  there = ap (option_map number_of) (bytes_from_same n m a 4 same) ∙ h.there;
-  holds = h.holds;
-}
+-- an address where a store may go: one that can be stored to, or one in a living block
+abbrev pub IsReached : List ℕ → Places → Memory → ℕ → Type 0
+IsReached file places m a = (is_plain_store file a ≡ true) ⊎ InBlock places.blocks m a
 
-pub plain_of_store : (file : List ℕ) (a : ℕ) → is_plain_store file a ≡ true → is_plain file a ≡ true
-unfolding is_plain_store
-plain_of_store file a h = and_first (is_plain file a) _ h
+-- it is in memory, and neither code nor new text
+reached_there : (file new : List ℕ) (places : Places) (m : Memory) (memory : List Range) (a : ℕ)
+    → InMemory file new places m memory → IsReached file places m a → is_some (range_at memory a) ≡ true
+reached_there file new places m memory a h (inl store) = writable_there memory a (h.laid.writable a store)
+reached_there file new places m memory a h (inr block) =
+    let o : ℕ = a - slice_index places.blocks block.block in
+    let place : slice_index places.blocks block.block + o ≡ a = (let l = block.low in omega (arith, l)) in
+    let inside : o < block.life.capacity = (let t = block.high in let l = block.low in omega (arith, t, l)) in
+    writable_there memory a (subst (λ y. allows_store (range_at memory y) ≡ true) place
+    (h.laid.block_writable block.block o block.life block.is block.lives inside))
 
--- an address that can be stored to is in memory, and neither code nor new text
-pub store_there : (file new : List ℕ) (memory : List Range) (a : ℕ)
-    → MemoryGround file new → map shape_of memory ≡ map shape_of (memory_of new) → is_plain_store file a ≡ true → is_some (range_at memory a) ≡ true
-store_there file new memory a g shape h =
-    writable_there memory a (same_writable memory (memory_of new) a shape ∙ g.storable a h)
+not_code : (file new : List ℕ) (places : Places) (m : Memory) (memory : List Range) (a x : ℕ) → MemoryGround file new
+    → InMemory file new places m memory → IsReached file places m a → is_code_byte file x ≡ true → x ≢ a
+not_code file new places m memory a x g h reached code e =
+    let clash : true ≡ false = sym code ∙ (ap (is_code_byte file) e ∙ beside reached) in cc
+  where
+    beside : IsReached file places m a → is_code_byte file a ≡ false
+    beside (inl store) = g.plain_data a (h.laid.stores a store)
+    beside (inr block) = h.block_data a block
 
-pub not_code : (file new : List ℕ) (a x : ℕ) → MemoryGround file new → is_plain file a ≡ true → is_code_byte file x ≡ true → x ≢ a
-not_code file new a x g plain code e =
-    let clash : true ≡ false = sym code ∙ (ap (is_code_byte file) e ∙ g.plain_data a plain) in cc
-
-pub not_text : (file new : List ℕ) (a x : ℕ) → MemoryGround file new → is_plain file a ≡ true
+not_text : (file new : List ℕ) (places : Places) (m : Memory) (memory : List Range) (a x : ℕ) → MemoryGround file new
+    → InMemory file new places m memory → IsReached file places m a
     → text_at file ≤ x → x < text_at file + text_room → x ≢ a
-not_text file new a x g plain low high = at (g.plain_apart a plain)
+not_text file new places m memory a x g h reached low high = by_place reached
   where
     room : text_at file + text_room ≤ 0x7FF00000
     room = g.low_text
 
-    at : (a < text_at file) ⊎ (0x7FF00000 ≤ a) → x ≢ a
-    at (inl l) = omega arith
-    at (inr r) = omega (arith, room)
+    apart : (a < text_at file) ⊎ (0x7FF00000 ≤ a) → x ≢ a
+    apart (inl l) = omega arith
+    apart (inr r) = omega (arith, room)
 
--- a byte that is stored on both machines: known alike, or unset on the symbol machine
-pub put_one : (file new : List ℕ) (places : Places) (cells : Cells) (memory : List Range) (a b : ℕ) (o : Option ℕ)
-    → MemoryGround file new → InMemory file new places cells memory → is_plain_store file a ≡ true → b < 256 → ((c : ℕ) → o ≡ Some c → c ≡ b)
-    → InMemory file new places (put_known a o cells) (put_byte memory a b)
-put_one file new places cells memory a b o g h store byte same = record {
-  bytes = λ x c plain k. at x c plain k (nat_eq x a) refl;
-  symbols = λ k v plain e. symbol k v plain (symbol_left a k v o cells e);
-  stored_returns = λ k r e. h.stored_returns k r (symbol_left a k (Ret r) o cells e).1;
-  small = λ x c e. below x c e (nat_eq x a) refl;
-  shape = put_byte_shape memory a b ∙ h.shape;
-  code = λ x code. put_elsewhere memory a b x (not_code file new a x g (plain_of_store file a store) code) ∙ h.code x code;
-  text = λ x low high. put_elsewhere memory a b x (not_text file new a x g (plain_of_store file a store) low high) ∙ h.text x low high;
-}
+    by_place : IsReached file places m a → x ≢ a
+    by_place (inl store) = apart (g.plain_apart a (h.laid.stores a store))
+    by_place (inr block) = let above = h.block_apart a block in omega (arith, above)
+
+-- an address that isn't among n from a on
+outside : (x a n : ℕ) → (a ≤ x → x < a + n → ⊥) → (x < a) ⊎ (a + n ≤ x)
+outside x a n never = ⊎_elim (λ (l : x < a). inl l) (λ (r : a ≤ x). ⊎_elim (λ (s : x < a + n). absurd (never r s)) (λ
+    (t : a + n ≤ x). inr t) (cases_lt x (a + n))) (cases_lt x a)
+
+-- bytes that are stored among bytes
+bytes_put : (memory : List Range) (a : ℕ) (bs : List ℕ) → ((x b : ℕ) → byte_of memory x ≡ Some b → b < 256)
+    → IsThere memory a (length bs) → All (λ b. b < 256) bs → (x b : ℕ) → byte_of (put_bytes memory a bs) x ≡ Some b
+    → b < 256
+bytes_put memory a [] small there bytes x b e = small x b e
+bytes_put memory a (c ∷ bs) small there bytes x b e =
+    bytes_put (put_byte memory a c) (a + 1) bs (λ y d f. one y d f (nat_eq y a) refl)
+    (λ y low high. same_there (put_byte memory a c) memory y (put_byte_shape memory a c)
+    ∙ there y (omega arith) (omega arith))
+    (All-tail (λ b. b < 256) c bs bytes) x b e
   where
-    at : (x c : ℕ) → is_plain file x ≡ true → known (put_known a o cells) x ≡ Some c → (v : Bool) → nat_eq x a ≡ v → byte_of (put_byte memory a b) x ≡ Some c
-    at x c plain k true e =
-        let here : x ≡ a = grind (arith, nat_tests) in
-        let is : o ≡ Some c = sym (known_here a o cells) ∙ (ap (known (put_known a o cells)) (sym here) ∙ k) in
-        let value : c ≡ b = same c is in
-        rw (here, value) (put_there memory a b (store_there file new memory a g h.shape store))
-    at x c plain k false e =
-        let other : x ≢ a = grind (arith, nat_tests) in
-        put_elsewhere memory a b x other ∙ h.bytes x c plain (known_elsewhere a x c o cells other k)
+    one : (y d : ℕ) → byte_of (put_byte memory a c) y ≡ Some d → (t : Bool) → nat_eq y a ≡ t → d < 256
+    one y d f true t =
+        let same : y ≡ a = eqb-true y a t in
+        let is : Some c ≡ Some d = sym (put_there memory a c (there a (omega arith) (omega arith)))
+        ∙ (ap (byte_of (put_byte memory a c)) (sym same) ∙ f) in
+        let value : c ≡ d = cc in
+        subst (λ z. z < 256) value (All-head (λ b. b < 256) c bs bytes)
+    one y d f false t = small y d (sym (put_elsewhere memory a c y (eqb-false y a t)) ∙ f)
 
-    below : (x c : ℕ) → byte_of (put_byte memory a b) x ≡ Some c → (v : Bool) → nat_eq x a ≡ v → c < 256
-    below x c e true t =
-        let here : x ≡ a = grind (arith, nat_tests) in
-        let is : Some b ≡ Some c = sym (put_there memory a b (store_there file new memory a g h.shape store)) ∙ subst (λ z. byte_of (put_byte memory a b) z ≡ Some c) here e in
-        let same : b ≡ c = cc in
-        omega (arith, byte, same)
-    below x c e false t =
-        let other : x ≢ a = grind (arith, nat_tests) in
-        h.small x c (sym (put_elsewhere memory a b x other) ∙ e)
+-- a block of a memory with the same lives
+same_block : (places : Places) (m n : Memory) (x : ℕ) → map life_of n.blocks ≡ map life_of m.blocks
+    → InBlock places.blocks n x → InBlock places.blocks m x
+same_block places m n x lives h = record {
+  block = h.block;
+  life = h.life;
+  is = ap (λ ls. slice_get ls h.block) (sym lives) ∙ h.is;
+  lives = h.lives;
+  low = h.low;
+  high = h.high;
+}
 
-    symbol : (k : ℕ) (v : Value) → all_from (is_plain file) (4 * k) 4 ≡ true → (k ≢ a / 4) × (cells k ≡ Symbol v)
-        → StandsInMemory places (put_byte memory a b) (4 * k) v
-    symbol k v plain (n, e) =
-        stands_still places memory (put_byte memory a b) (4 * k) v
-        (λ x low high. put_elsewhere memory a b x (let apart : x ≢ a = omega (arith, n) in apart)) (h.symbols k v plain e)
+-- bytes that go where a store may go, after which memory still stands and lies as before
+pub puts_memory : (file new : List ℕ) (places : Places) (m n : Memory) (memory : List Range) (a : ℕ) (bs : List ℕ)
+    → MemoryGround file new → InMemory file new places m memory → All (λ b. b < 256) bs
+    → MemoryStands places.back places.blocks (is_plain file) (put_bytes memory a bs) n
+    → Laid places.blocks (image_end (segments_of file)) (is_plain file) (is_plain_store file) (put_bytes memory a bs) n
+    → map life_of n.blocks ≡ map life_of m.blocks
+    → ((x : ℕ) → a ≤ x → x < a + length bs → IsReached file places m x)
+    → InMemory file new places n (put_bytes memory a bs)
+puts_memory file new places m n memory a bs g h bytes stands laid lives went = record {
+  stands = stands;
+  laid = laid;
+  block_data = λ x block. h.block_data x (same_block places m n x lives block);
+  block_apart = λ x block. h.block_apart x (same_block places m n x lives block);
+  small = bytes_put memory a bs h.small (λ x low high. reached_there file new places m memory x h
+      (went x low high)) bytes;
+  shape = put_bytes_shape memory a bs ∙ h.shape;
+  code = λ x code. put_bytes_elsewhere memory a bs x (outside x a (length bs)
+      (λ low high. not_code file new places m memory x x g h (went x low high) code refl)) ∙ h.code x code;
+  text = λ x low high. put_bytes_elsewhere memory a bs x (outside x a (length bs)
+      (λ l t. not_text file new places m memory x x g h (went x l t) low high refl)) ∙ h.text x low high;
+}

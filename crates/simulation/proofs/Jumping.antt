@@ -11,9 +11,10 @@ use Rattle.machine_spec.specs.declared.FaultKind.TheVariants.{F3}
 use Rattle.machine_spec.specs.Start.{behind}
 use Rattle.flat_spec.specs.Machine as flat
 use Rattle.flat_spec.specs.Machine.{Machine, register}
-use Rattle.sym_spec.specs.declared.Value.TheVariants.{Num, Ret}
+use Rattle.sym_value.specs.declared.Value.TheVariants.{Num, Ret}
 use Rattle.sym_spec.specs.SymMachine.{SymMachine, faults, links, goes_to, jumps, goes_back, line_at, set_bit, back_index}
-use Rattle.match_spec.specs.Stands.{back_of, places_of, IsReturn}
+use Rattle.sym_value.specs.Standing.{IsReturn}
+use Rattle.match_spec.specs.Stands.{back_of, places_of}
 use Rattle.match_spec.specs.Parts.{InRegisters, text_room}
 use Rattle.match_spec.specs.Matches.{InStep}
 use Rattle.match_spec.specs.Keeps.{IsNoFault}
@@ -23,16 +24,19 @@ use Rattle.simulation.proofs.Operations.{holds_num, holds_ret}
 use Rattle.simulation.proofs.Registers.{put_register, put_zero, put_unset}
 
 -- behind a code word lies the next word
-pub behind_code : (file : List ℕ) (plan : Plan) (new : List ℕ) (a w : ℕ) → Ground file plan new → code_word file a ≡ Some w → behind a ≡ a + 4
+pub behind_code : (file : List ℕ) (plan : Plan) (new : List ℕ) (a w : ℕ) → Ground file plan new
+    → code_word file a ≡ Some w → behind a ≡ a + 4
 behind_code file plan new a w g e =
     let low : a + 4 ≤ text_at file = g.low_code a w e in
     let room : text_at file + text_room ≤ 0x7FF00000 = g.memory.low_text in
     omega (arith, low, room)
 
 -- the registers after a link, on both machines
-pub links_alike : (file : List ℕ) (plan : Plan) (new : List ℕ) (s : SymMachine) (m : Machine) (w r : ℕ) → Ground file plan new → InStep file plan new s m
+pub links_alike : (file : List ℕ) (plan : Plan) (new : List ℕ) (s : SymMachine) (m : Machine) (w r : ℕ)
+    → Ground file plan new → InStep file plan new s m
     → code_word file s.pc ≡ Some w → IsUnchosen file plan s.pc → r < 32 → r ≢ 4
-    → InRegisters (places_of file plan) (links plan r s).registers (slice_set m.registers r (behind m.pc)) (links plan r s).bits
+    → InRegisters (places_of file plan) (links plan r s).registers (slice_set m.registers r (behind m.pc))
+    (links plan r s).bits
 links_alike file plan new s m w r g h code none small other = rw h.pc (at (nat_eq r 1) refl)
   where
     next : behind s.pc ≡ s.pc + 4
@@ -40,10 +44,18 @@ links_alike file plan new s m w r g h code none small other = rw h.pc (at (nat_e
 
     at : (t : Bool) → nat_eq r 1 ≡ t
         → InRegisters (places_of file plan)
-        (cond t (record s { registers = slice_set s.registers 1 (Ret (behind s.pc)); bits = set_bit (line_at plan.sites s.pc) s.bits })
+        (cond t (record s {
+          registers = slice_set s.registers 1 (Ret (behind s.pc));
+          bits =
+              set_bit (line_at plan.sites s.pc) s.bits;
+        })
         (record s { registers = slice_set s.registers r (Num (behind s.pc)) })).registers
         (slice_set m.registers r (behind s.pc))
-        (cond t (record s { registers = slice_set s.registers 1 (Ret (behind s.pc)); bits = set_bit (line_at plan.sites s.pc) s.bits })
+        (cond t (record s {
+          registers = slice_set s.registers 1 (Ret (behind s.pc));
+          bits =
+              set_bit (line_at plan.sites s.pc) s.bits;
+        })
         (record s { registers = slice_set s.registers r (Num (behind s.pc)) })).bits
     at true e =
         let ra : r ≡ 1 = grind (arith, nat_tests) in
@@ -51,12 +63,16 @@ links_alike file plan new s m w r g h code none small other = rw h.pc (at (nat_e
         let room : text_at file + text_room ≤ 0x7FF00000 = g.memory.low_text in
         let aligned : s.pc % 4 ≡ 0 = g.aligned s.pc w code in
         let is : IsReturn (s.pc + 4) = (omega (arith, low, room), omega (arith, aligned)) in
-        rw (ra, none.none, next) (put_register (places_of file plan) s.registers m.registers s.bits 1 (Ret (s.pc + 4)) (s.pc + 4) h.registers (omega arith) (omega arith)
-        (holds_ret (places_of file plan) (s.pc + 4) (s.pc + 4) is (back_same file plan new s.pc g none) (omega (arith, low, room))))
-    at false e = put_register (places_of file plan) s.registers m.registers s.bits r (Num (behind s.pc)) (behind s.pc) h.registers small other (holds_num (places_of file plan) (behind s.pc) (omega arith))
+        rw (ra, none.none, next) (put_register (places_of file plan) s.registers m.registers s.bits 1 (Ret (s.pc + 4))
+        (s.pc + 4) h.registers (omega arith) (omega arith)
+        (holds_ret (places_of file plan) (s.pc + 4) (s.pc + 4) is (back_same file plan new s.pc g none)
+        (omega (arith, low, room))))
+    at false e = put_register (places_of file plan) s.registers m.registers s.bits r (Num (behind s.pc))
+        (behind s.pc) h.registers small other (holds_num (places_of file plan) (behind s.pc) (omega arith))
 
 -- the code word at a jump's target
-pub target_aligned : (file : List ℕ) (plan : Plan) (new : List ℕ) (a : ℕ) → Ground file plan new → is_some (code_word file a) ≡ true → a % 4 ≡ 0
+pub target_aligned : (file : List ℕ) (plan : Plan) (new : List ℕ) (a : ℕ) → Ground file plan new
+    → is_some (code_word file a) ≡ true → a % 4 ≡ 0
 target_aligned file plan new a g e = at (code_word file a) refl e
   where
     at : (o : Option ℕ) → code_word file a ≡ o → is_some o ≡ true → a % 4 ≡ 0
@@ -71,42 +87,55 @@ flat_jump r target m e = rw e refl
 links_ending : (plan : Plan) (r : ℕ) (s : SymMachine) → (links plan r s).ending ≡ s.ending
 links_ending plan r s = at (nat_eq r 1)
   where
-    at : (t : Bool) → (cond t (record s { registers = slice_set s.registers 1 (Ret (behind s.pc)); bits = set_bit (line_at plan.sites s.pc) s.bits })
+    at : (t : Bool) → (cond t (record s {
+      registers = slice_set s.registers 1 (Ret (behind s.pc));
+      bits = set_bit
+          (line_at plan.sites s.pc) s.bits;
+    })
         (record s { registers = slice_set s.registers r (Num (behind s.pc)) })).ending ≡ s.ending
     at true = refl
     at false = refl
 
-links_cells : (plan : Plan) (r : ℕ) (s : SymMachine) → (links plan r s).cells ≡ s.cells
-links_cells plan r s = at (nat_eq r 1)
+links_memory : (plan : Plan) (r : ℕ) (s : SymMachine) → (links plan r s).memory ≡ s.memory
+links_memory plan r s = at (nat_eq r 1)
   where
-    at : (t : Bool) → (cond t (record s { registers = slice_set s.registers 1 (Ret (behind s.pc)); bits = set_bit (line_at plan.sites s.pc) s.bits })
-        (record s { registers = slice_set s.registers r (Num (behind s.pc)) })).cells ≡ s.cells
+    at : (t : Bool) → (cond t (record s {
+      registers = slice_set s.registers 1 (Ret (behind s.pc));
+      bits = set_bit
+          (line_at plan.sites s.pc) s.bits;
+    })
+        (record s { registers = slice_set s.registers r (Num (behind s.pc)) })).memory ≡ s.memory
     at true = refl
     at false = refl
 
 -- a jump to a code word
-pub jumps_alike : (file : List ℕ) (plan : Plan) (new : List ℕ) (s : SymMachine) (m : Machine) (w r target : ℕ) → Ground file plan new → InStep file plan new s m
-    → code_word file s.pc ≡ Some w → IsUnchosen file plan s.pc → r < 32 → r ≢ 4 → IsNoFault (jumps file plan r target s).ending
+pub jumps_alike : (file : List ℕ) (plan : Plan) (new : List ℕ) (s : SymMachine) (m : Machine) (w r target : ℕ)
+    → Ground file plan new → InStep file plan new s m
+    → code_word file s.pc ≡ Some w → IsUnchosen file plan s.pc → r < 32 → r ≢ 4
+    → IsNoFault (jumps file plan r target s).ending
     → InStep file plan new (jumps file plan r target s) (flat.jumps r target m)
 jumps_alike file plan new s m w r target g h code none small other safe = at (is_some (code_word file target)) refl safe
   where
-    at : (t : Bool) → is_some (code_word file target) ≡ t → IsNoFault (cond t (record (links plan r s) { pc = target }) (faults F3 s)).ending
+    at : (t : Bool) → is_some (code_word file target) ≡ t
+        → IsNoFault (cond t (record (links plan r s) { pc = target }) (faults F3 s)).ending
         → InStep file plan new (cond t (record (links plan r s) { pc = target }) (faults F3 s)) (flat.jumps r target m)
     at true e safe =
         rw (flat_jump r target m (target_aligned file plan new target g e)) (record {
           pc = refl;
           ending = h.ending ∙ sym (links_ending plan r s);
           registers = links_alike file plan new s m w r g h code none small other;
-          memory = rw (links_cells plan r s) h.memory;
+          memory = rw (links_memory plan r s) h.memory;
         })
     at false e safe = absurd safe
 
 -- a taken branch
-pub branch_alike : (file : List ℕ) (plan : Plan) (new : List ℕ) (s : SymMachine) (m : Machine) (target : ℕ) → Ground file plan new → InStep file plan new s m
+pub branch_alike : (file : List ℕ) (plan : Plan) (new : List ℕ) (s : SymMachine) (m : Machine) (target : ℕ)
+    → Ground file plan new → InStep file plan new s m
     → IsNoFault (goes_to file target s).ending → InStep file plan new (goes_to file target s) (flat.jumps 0 target m)
 branch_alike file plan new s m target g h safe = at (is_some (code_word file target)) refl safe
   where
-    at : (t : Bool) → is_some (code_word file target) ≡ t → IsNoFault (cond t (record s { pc = target }) (faults F3 s)).ending
+    at : (t : Bool) → is_some (code_word file target) ≡ t
+        → IsNoFault (cond t (record s { pc = target }) (faults F3 s)).ending
         → InStep file plan new (cond t (record s { pc = target }) (faults F3 s)) (flat.jumps 0 target m)
     at true e safe =
         rw (flat_jump 0 target m (target_aligned file plan new target g e)) (record {
@@ -118,7 +147,8 @@ branch_alike file plan new s m target g h safe = at (is_some (code_word file tar
     at false e safe = absurd safe
 
 -- a jump back to a return address goes to where the call comes back to in the new file
-pub flat_back : (file : List ℕ) (plan : Plan) (new : List ℕ) (back : ℕ) (m : Machine) → Ground file plan new → IsReturn back
+pub flat_back : (file : List ℕ) (plan : Plan) (new : List ℕ) (back : ℕ) (m : Machine) → Ground file plan new
+    → IsReturn back
     → flat.jumps 0 (plus (back_of file plan back) 0 / 2 * 2) m
     ≡ record m { registers = slice_set m.registers 0 (behind m.pc); pc = back_of file plan back }
 flat_back file plan new back m g h =
@@ -127,14 +157,17 @@ flat_back file plan new back m g h =
     rw target (flat_jump 0 (back_of file plan back) m is.1)
 
 -- and stays there where the call is no chosen site's
-pub back_alike : (file : List ℕ) (plan : Plan) (new : List ℕ) (s : SymMachine) (m : Machine) (back : ℕ) → Ground file plan new → InStep file plan new s m
+pub back_alike : (file : List ℕ) (plan : Plan) (new : List ℕ) (s : SymMachine) (m : Machine) (back : ℕ)
+    → Ground file plan new → InStep file plan new s m
     → back_index file plan.sites back ≡ None
-    → InStep file plan new (goes_back file plan back s) (record m { registers = slice_set m.registers 0 (behind m.pc); pc = back_of file plan back })
+    → InStep file plan new (goes_back file plan back s)
+    (record m { registers = slice_set m.registers 0 (behind m.pc); pc = back_of file plan back })
 unfolding back_of
 back_alike file plan new s m back g h none = rw none (record {
   pc = refl;
   ending = h.ending;
   registers = put_unset (places_of file plan) s.registers (slice_set m.registers 0 (behind m.pc)) s.bits 1
-      (put_zero (places_of file plan) s.registers m.registers s.bits (behind m.pc) h.registers) (omega arith) (omega arith);
+      (put_zero (places_of file plan) s.registers m.registers s.bits (behind m.pc) h.registers) (omega arith)
+      (omega arith);
   memory = h.memory;
 })

@@ -1,5 +1,4 @@
 pub mod InMemory
-pub mod Storing
 pub mod Backs
 pub mod Operations
 pub mod Loading
@@ -12,4 +11,5 @@ pub mod StubJump
 pub mod Following
 pub mod Turning
 pub mod InputLeft
+pub mod Starting
 pub mod Running

@@ -2,8 +2,8 @@
 use Rattle.std.proofs.Common.{◌≡◌, ◌≢◌, ℕ, ◌<◌, ◌^◌, List, Bool, true, false, cond, length, refl, sym, ◌∙◌, subst, arith, length-set, get_or-set_same, get_or-set_other}
 use Rattle.std.specs.Prelude.{nat_eq, slice_index, slice_index_or, slice_set}
 use Rattle.std.proofs.lemmas.Bool.Decides.{nat_tests}
-use Rattle.sym_spec.specs.declared.Value.{Value}
-use Rattle.sym_spec.specs.declared.Value.TheVariants.{Num, Unset}
+use Rattle.sym_value.specs.declared.Value.{Value}
+use Rattle.sym_value.specs.declared.Value.TheVariants.{Num, Unset}
 use Rattle.flat_spec.specs.Machine.{word_read}
 use Rattle.sym_spec.specs.SymMachine.{value_read}
 use Rattle.match_spec.specs.Stands.{Places, Holds}
@@ -24,7 +24,8 @@ put_register places values words bits r v w h small other holds = record {
 }
   where
     at : (k : ℕ) → k < 32 → k ≢ 4 → (z : Bool) → nat_eq k 0 ≡ z → (s : Bool) → nat_eq k r ≡ s
-        → Holds places (cond z (Num 0) (slice_index_or (slice_set values r v) k Unset)) (cond z 0 (slice_index (slice_set words r w) k))
+        → Holds places (cond z (Num 0) (slice_index_or (slice_set values r v) k Unset))
+        (cond z 0 (slice_index (slice_set words r w) k))
     at k low n true e s f = holds_num places 0 (omega arith)
     at k low n false e true f =
         let same : k ≡ r = grind (arith, nat_tests) in
@@ -33,8 +34,10 @@ put_register places values words bits r v w h small other holds = record {
         rw (same, get_or-set_same values r v Unset sym_inside, get_or-set_same words r w 0 inside) holds
     at k low n false e false f =
         let apart : k ≢ r = grind (arith, nat_tests) in
-        let before : Holds places (cond false (Num 0) (slice_index_or values k Unset)) (cond false 0 (slice_index words k)) =
-        subst (λ t. Holds places (cond t (Num 0) (slice_index_or values k Unset)) (cond t 0 (slice_index words k))) e (h.holds k low n) in
+        let before : Holds places (cond false (Num 0) (slice_index_or values k Unset))
+        (cond false 0 (slice_index words k)) =
+        subst (λ t. Holds places (cond t (Num 0) (slice_index_or values k Unset)) (cond t 0 (slice_index words k))) e
+        (h.holds k low n) in
         rw (get_or-set_other values r k v Unset apart, get_or-set_other words r k w 0 apart) before
 
 -- whatever is written to x0 on the flat machine, and a register that is unset on the symbol machine
@@ -54,8 +57,10 @@ put_zero places values words bits w h = record {
     at k low n true e = holds_num places 0 (omega arith)
     at k low n false e =
         let apart : k ≢ 0 = grind (arith, nat_tests) in
-        let before : Holds places (cond false (Num 0) (slice_index_or values k Unset)) (cond false 0 (slice_index words k)) =
-        subst (λ t. Holds places (cond t (Num 0) (slice_index_or values k Unset)) (cond t 0 (slice_index words k))) e (h.holds k low n) in
+        let before : Holds places (cond false (Num 0) (slice_index_or values k Unset))
+        (cond false 0 (slice_index words k)) =
+        subst (λ t. Holds places (cond t (Num 0) (slice_index_or values k Unset)) (cond t 0 (slice_index words k))) e
+        (h.holds k low n) in
         rw (get_or-set_other words 0 k w 0 apart) before
 
 pub put_unset : (places : Places) (values : List Value) (words : List ℕ) (bits r : ℕ)
@@ -70,26 +75,32 @@ put_unset places values words bits r h small other = record {
 }
   where
     at : (k : ℕ) → k < 32 → k ≢ 4 → (z : Bool) → nat_eq k 0 ≡ z → (s : Bool) → nat_eq k r ≡ s
-        → Holds places (cond z (Num 0) (slice_index_or (slice_set values r Unset) k Unset)) (cond z 0 (slice_index words k))
+        → Holds places (cond z (Num 0) (slice_index_or (slice_set values r Unset) k Unset))
+        (cond z 0 (slice_index words k))
     at k low n true e s f = holds_num places 0 (omega arith)
     at k low n false e true f =
         let same : k ≡ r = grind (arith, nat_tests) in
         let sym_inside : r < length values = omega (arith, h.sym_long, small) in
         let word : word_read words r < 2 ^ 32 = (h.holds r small other).small in
         let read : word_read words k ≡ slice_index words k = rw e refl in
-        let fits : slice_index words r < 2 ^ 32 = subst (λ z. slice_index words z < 2 ^ 32) same (subst (λ z. z < 2 ^ 32) read (subst (λ z. word_read words z < 2 ^ 32) (sym same) word)) in
+        let fits : slice_index words r < 2 ^ 32 =
+        subst (λ z. slice_index words z < 2 ^ 32) same
+        (subst (λ z. z < 2 ^ 32) read (subst (λ z. word_read words z < 2 ^ 32) (sym same) word)) in
         rw (same, get_or-set_same values r Unset Unset sym_inside) (holds_unset places (slice_index words r) fits)
     at k low n false e false f =
         let apart : k ≢ r = grind (arith, nat_tests) in
-        let before : Holds places (cond false (Num 0) (slice_index_or values k Unset)) (cond false 0 (slice_index words k)) =
-        subst (λ t. Holds places (cond t (Num 0) (slice_index_or values k Unset)) (cond t 0 (slice_index words k))) e (h.holds k low n) in
+        let before : Holds places (cond false (Num 0) (slice_index_or values k Unset))
+        (cond false 0 (slice_index words k)) =
+        subst (λ t. Holds places (cond t (Num 0) (slice_index_or values k Unset)) (cond t 0 (slice_index words k))) e
+        (h.holds k low n) in
         rw (get_or-set_other values r k Unset Unset apart) before
 
 -- a write to x0 is never read
 pub zero_unread : (words : List ℕ) (w k : ℕ) → word_read (slice_set words 0 w) k ≡ word_read words k
 zero_unread words w k = at (nat_eq k 0) refl
   where
-    at : (z : Bool) → nat_eq k 0 ≡ z → cond (nat_eq k 0) 0 (slice_index (slice_set words 0 w) k) ≡ cond (nat_eq k 0) 0 (slice_index words k)
+    at : (z : Bool) → nat_eq k 0 ≡ z → cond (nat_eq k 0) 0 (slice_index (slice_set words 0 w) k) ≡ cond (nat_eq k 0) 0
+        (slice_index words k)
     at true e = rw e refl
     at false e = let other : k ≢ 0 = grind (arith, nat_tests) in rw e (get_or-set_other words 0 k w 0 other)
 
@@ -110,11 +121,13 @@ changed_registers places values words now bits one four v h long first there oth
     same_value : (k : ℕ) → k ≢ 1 → value_read (slice_set values 1 v) k ≡ value_read values k
     same_value k apart = by_zero (nat_eq k 0)
       where
-        by_zero : (z : Bool) → cond z (Num 0) (slice_index_or (slice_set values 1 v) k Unset) ≡ cond z (Num 0) (slice_index_or values k Unset)
+        by_zero : (z : Bool) → cond z (Num 0) (slice_index_or (slice_set values 1 v) k Unset) ≡ cond z (Num 0)
+            (slice_index_or values k Unset)
         by_zero true = refl
         by_zero false = get_or-set_other values 1 k v Unset apart
 
-    at : (k : ℕ) → k < 32 → k ≢ 4 → (s : Bool) → nat_eq k 1 ≡ s → Holds places (value_read (slice_set values 1 v) k) (word_read now k)
+    at : (k : ℕ) → k < 32 → k ≢ 4 → (s : Bool) → nat_eq k 1 ≡ s
+        → Holds places (value_read (slice_set values 1 v) k) (word_read now k)
     at k low n true f =
         let same : k ≡ 1 = grind (arith, nat_tests) in
         let inside : 1 < length values = omega (arith, h.sym_long) in

@@ -1,32 +1,29 @@
 -- The whole run: from the start, by induction on the turns of the symbol machine.
-use Rattle.std.proofs.Common.{◌≡◌, ◌≢◌, ℕ, zero, suc, ◌+◌, ◌*◌, ◌/◌, ◌%◌, ◌<◌, ◌≤◌, List, [], ◌∷◌, Bool, true, false, cond, length, map, refl, ap, sym, ◌∙◌, subst, arith, get_or, ◌^◌}
-use Rattle.std.specs.Prelude.{None, nat_eq, nat_lt, slice_index, slice_index_or}
+use Rattle.std.proofs.Common.{◌≡◌, ℕ, zero, suc, ◌+◌, ◌*◌, ◌<◌, ◌≤◌, List, [], ◌∷◌, Bool, true, false, cond, length, map, refl, ap, sym, ◌∙◌, subst, arith, get_or, ◌^◌}
+use Rattle.std.specs.Prelude.{nat_eq, nat_lt, slice_index, slice_index_or}
 use Rattle.std.specs.List.{All}
 use Rattle.std.proofs.lemmas.List.Sums.{AllPass-from_list_all}
 use Rattle.std.proofs.lemmas.Bool.Decides.{nat_tests}
 use Rattle.plan_core.specs.declared.types.Plan.{Plan}
 use Rattle.machine_spec.specs.declared.Ending.{Ending}
 use Rattle.machine_spec.specs.declared.Ending.TheVariants.{Running, Exit, Illegal, Fault}
-use Rattle.machine_spec.specs.Memory.{memory_of, byte_of}
 use Rattle.machine_spec.specs.Start.{start_registers}
 use Rattle.flat_spec.specs.Machine as flat_machine
 use Rattle.flat_spec.specs.Machine.{Machine, word_read}
 use Rattle.flat_spec.specs.Runs as flat
 use Rattle.flat_spec.specs.Runs.{State}
-use Rattle.sym_spec.specs.declared.Value.{Value}
-use Rattle.sym_spec.specs.declared.Value.TheVariants.{Num, Ret, Unset}
-use Rattle.sym_spec.specs.Cells.{Bytes, Symbol, known, byte_in}
-use Rattle.sym_spec.specs.Plain.{start_byte, start_cells}
+use Rattle.sym_value.specs.declared.Value.TheVariants.{Num, Unset}
 use Rattle.sym_spec.specs.SymMachine.{SymMachine, value_read, start}
 use Rattle.sym_spec.specs.SymTurns.{turn_of, turn}
 use Rattle.sym_spec.specs.SymRuns.{SymState, step, steps, sym_run}
-use Rattle.match_spec.specs.Stands.{Places, places_of, Holds}
-use Rattle.match_spec.specs.Parts.{InRegisters, InMemory}
+use Rattle.match_spec.specs.Stands.{Places, places_of, back_of, Holds}
+use Rattle.match_spec.specs.Parts.{InRegisters}
 use Rattle.match_spec.specs.Matches.{InStep, Matches}
 use Rattle.match_spec.specs.Keeps.{IsNoFault, Keeps, turn_bound}
-use Rattle.simulation.specs.Ground.{Ground, MemoryGround}
+use Rattle.simulation.specs.Ground.{Ground}
 use Rattle.simulation.proofs.Operations.{holds_num}
 use Rattle.simulation.proofs.InputLeft.{bytes_left}
+use Rattle.simulation.proofs.Starting.{memory_start}
 use Rattle.site_stubs.specs.StubRuns.{state_of}
 use Rattle.flat_spec.proofs.Runs.{more_steps}
 use Rattle.simulation.proofs.Following.{Follows}
@@ -37,18 +34,21 @@ start_holds : (places : Places) (words : List ℕ) (r : ℕ) → All (λ w. w < 
     → Holds places (value_read (map (λ w. Num w) words) r) (word_read words r)
 start_holds places words r fit small = at (nat_eq r 0)
   where
-    reads : (words : List ℕ) (r : ℕ) → r < length words → slice_index_or (map (λ w. Num w) words) r Unset ≡ Num (slice_index words r)
+    reads : (words : List ℕ) (r : ℕ) → r < length words
+        → slice_index_or (map (λ w. Num w) words) r Unset ≡ Num (slice_index words r)
     reads [] r small = absurd (omega arith)
     reads (w ∷ words) zero small = refl
     reads (w ∷ words) (suc r) small = reads words r (omega arith)
 
-    at : (z : Bool) → Holds places (cond z (Num 0) (slice_index_or (map (λ w. Num w) words) r Unset)) (cond z 0 (slice_index words r))
+    at : (z : Bool) → Holds places (cond z (Num 0) (slice_index_or (map (λ w. Num w) words) r Unset))
+        (cond z 0 (slice_index words r))
     at true = holds_num places 0 (omega arith)
     at false = rw (reads words r small) (holds_num places (slice_index words r) (fit r 0 small))
 
 start_words : All (λ w. w < 2 ^ 32) start_registers
 start_words r d small =
-    let test : nat_lt (get_or start_registers r d) (2 ^ 32) ≡ true = AllPass-from_list_all (λ w. nat_lt w (2 ^ 32)) start_registers refl r d small in
+    let test : nat_lt (get_or start_registers r d) (2 ^ 32) ≡ true =
+    AllPass-from_list_all (λ w. nat_lt w (2 ^ 32)) start_registers refl r d small in
     grind (arith, nat_tests)
 
 registers_start : (places : Places) → InRegisters places (map (λ w. Num w) start_registers) start_registers 0
@@ -61,45 +61,19 @@ registers_start places = record {
   sym_long = refl;
 }
 
--- the memory at the start
-start_known : (file : List ℕ) (a : ℕ) → known (start_cells file) a ≡ start_byte file a
-unfolding start_cells
-start_known file a = by_rest (a % 4) refl
-  where
-    by_rest : (r : ℕ) → a % 4 ≡ r
-        → byte_in (Bytes (start_byte file (4 * (a / 4))) (start_byte file (4 * (a / 4) + 1)) (start_byte file (4 * (a / 4) + 2)) (start_byte file (4 * (a / 4) + 3))) r ≡ start_byte file a
-    by_rest zero e = ap (start_byte file) (omega arith)
-    by_rest (suc zero) e = ap (start_byte file) (omega arith)
-    by_rest (suc (suc zero)) e = ap (start_byte file) (omega arith)
-    by_rest (suc (suc (suc zero))) e = ap (start_byte file) (omega arith)
-    by_rest (suc (suc (suc (suc r)))) e = absurd (omega arith)
-
-no_symbol : (file : List ℕ) (k : ℕ) (v : Value) → start_cells file k ≡ Symbol v → ⊥
-unfolding start_cells
-no_symbol file k v e = cc
-
-memory_start : (file new : List ℕ) (places : Places) → MemoryGround file new → InMemory file new places (start_cells file) (memory_of new)
-memory_start file new places g = record {
-  bytes = λ a b plain k. g.plain a plain ∙ (sym (ap (λ t. cond t (byte_of (memory_of file) a) None) plain) ∙ (sym (start_known file a) ∙ k));
-  symbols = λ k v plain e. absurd (no_symbol file k v e);
-  stored_returns = λ k a e. absurd (no_symbol file k (Ret a) e);
-  small = g.bytes;
-  shape = refl;
-  code = λ a code. refl;
-  text = λ a low high. refl;
-}
-
-start_alike : (file : List ℕ) (plan : Plan) (new : List ℕ) → Ground file plan new → InStep file plan new (start file) (flat_machine.start new)
+start_alike : (file : List ℕ) (plan : Plan) (new : List ℕ) → Ground file plan new
+    → InStep file plan new (start file) (flat_machine.start new)
 unfolding start flat_machine.start
 start_alike file plan new g = record {
   pc = g.entry;
   ending = refl;
   registers = registers_start (places_of file plan);
-  memory = memory_start file new (places_of file plan) g.memory;
+  memory = memory_start file new (back_of file plan) g.memory;
 }
 
 -- a fault stays a fault
-fault_stays : (file : List ℕ) (plan : Plan) (input : List ℕ) (s : SymMachine) → IsNoFault (turn file plan input s).next.ending → IsNoFault s.ending
+fault_stays : (file : List ℕ) (plan : Plan) (input : List ℕ) (s : SymMachine)
+    → IsNoFault (turn file plan input s).next.ending → IsNoFault s.ending
 unfolding turn
 fault_stays file plan input s safe = by_ending s.ending refl safe
   where
@@ -119,7 +93,8 @@ pub record InRun (file : List ℕ) (plan : Plan) (new input : List ℕ) (n : ℕ
   pub is : flat.flat_run new input turns ≡ state_of machine s.input s.output
   pub next : InStep file plan new s.machine machine
 
-one_more : (file : List ℕ) (plan : Plan) (new input : List ℕ) (n : ℕ) (s : SymState) → Ground file plan new → IsNoFault (step file plan s).machine.ending
+one_more : (file : List ℕ) (plan : Plan) (new input : List ℕ) (n : ℕ) (s : SymState) → Ground file plan new
+    → IsNoFault (step file plan s).machine.ending
     → InRun file plan new input n s → InRun file plan new input (suc n) (step file plan s)
 unfolding step flat.flat_run
 one_more file plan new input n s g safe h =
@@ -129,18 +104,21 @@ one_more file plan new input n s g safe h =
     record {
       turns = f.turns + h.turns;
       least = omega (arith, f.some, h.least);
-      most = let more : suc n * turn_bound plan.area ≡ turn_bound plan.area + n * turn_bound plan.area = omega arith in omega (arith, f.few, h.most, more);
+      most = let more : suc n * turn_bound plan.area ≡ turn_bound plan.area + n * turn_bound plan.area =
+          omega arith in omega (arith, f.few, h.most, more);
       bytes = bytes_left file plan s.input s.machine h.bytes;
       machine = f.machine;
       is = more_steps f.turns h.turns from ∙ (ap (flat.steps f.turns) h.is ∙ f.is);
       next = f.next;
     }
 
-before : (file : List ℕ) (plan : Plan) (s : SymState) → IsNoFault (step file plan s).machine.ending → IsNoFault s.machine.ending
+before : (file : List ℕ) (plan : Plan) (s : SymState) → IsNoFault (step file plan s).machine.ending
+    → IsNoFault s.machine.ending
 unfolding step
 before file plan s safe = fault_stays file plan s.input s.machine safe
 
-pub in_run : (file : List ℕ) (plan : Plan) (new input : List ℕ) (n : ℕ) → Ground file plan new → All (λ b. b < 256) input → IsNoFault (sym_run file plan input n).machine.ending
+pub in_run : (file : List ℕ) (plan : Plan) (new input : List ℕ) (n : ℕ) → Ground file plan new
+    → All (λ b. b < 256) input → IsNoFault (sym_run file plan input n).machine.ending
     → InRun file plan new input n (sym_run file plan input n)
 unfolding sym_run steps flat.flat_run flat.steps
 in_run file plan new input zero g bytes safe = record {
@@ -164,5 +142,6 @@ keeps file plan new g input bytes n safe =
       turns = h.turns;
       least = h.least;
       most = h.most;
-      state = subst (λ x. Matches file plan new (sym_run file plan input n) x) (sym h.is) (record { machines = h.next; input = refl; output = refl });
+      state = subst (λ x. Matches file plan new (sym_run file plan input n) x) (sym h.is)
+          (record { machines = h.next; input = refl; output = refl });
     }

@@ -1,20 +1,20 @@
 -- What the simulation rests on: facts about a source, a plan that fits it and the memory of its new
 -- file, which speak of no state of a machine.
-use Rattle.std.specs.Prelude.{◌≡◌, ℕ, ◌+◌, ◌*◌, ◌%◌, ◌^◌, ◌<◌, ◌≤◌, ◌⊎◌, List, true, false, Some, None, length, slice_get, is_some}
+use Rattle.std.specs.Prelude.{◌≡◌, ℕ, ◌+◌, ◌*◌, ◌/◌, ◌%◌, ◌^◌, ◌<◌, ◌≤◌, ◌⊎◌, List, true, false, Some, None, length, slice_get, is_some}
 use Rattle.rv_isa.specs.declared.Instr.{Instr}
-use Rattle.rv_isa.specs.declared.Instr.TheVariants.{Jal}
+use Rattle.rv_isa.specs.declared.Instr.TheVariants.{Auipc, Jal, Jalr}
 use Rattle.rv_isa.specs.Table.{decoded}
-use Rattle.rv_isa.specs.Encoded.{encoded}
 use Rattle.rv_isa.specs.Names.{names_register}
 use Rattle.elf_spec.specs.Records.{e_entry}
 use Rattle.elf_spec.specs.Code.{code_word}
 use Rattle.plan_core.specs.declared.types.Plan.{Plan}
 use Rattle.plan_core.specs.declared.types.PlanLine.{PlanLine}
 use Rattle.site_spec.specs.declared.Site.{Site}
-use Rattle.rv_isa.specs.Addresses.{plus, minus}
+use Rattle.rv_isa.specs.Addresses.{plus}
 use Rattle.site_spec.specs.Places.{text_at, stub_at}
 use Rattle.site_spec.specs.Sites.{site_at}
 use Rattle.site_spec.specs.Plans.{Fits}
+use Rattle.new_file_spec.specs.Rewritten.{jump_words}
 use Rattle.new_file_spec.specs.Stubs.{stub_words}
 use Rattle.machine_spec.specs.Memory.{range_at, byte_of, memory_of}
 use Rattle.flat_spec.specs.Stores.{allows_store, fetched}
@@ -22,6 +22,7 @@ use Rattle.sym_spec.specs.Plain.{is_plain, is_plain_store, is_code_byte}
 use Rattle.sym_spec.specs.SymMachine.{line_at}
 use Rattle.sym_spec.specs.SymTurns.{is_second}
 use Rattle.match_spec.specs.Parts.{text_room}
+use Rattle.simulation.specs.Laws.{Laws}
 
 -- a site is a JAL that links ra: what it calls, and where it comes back to
 pub record IsJalSite (file : List ℕ) (a : ℕ) (s : Site) : Type 0 where
@@ -29,9 +30,26 @@ pub record IsJalSite (file : List ℕ) (a : ℕ) (s : Site) : Type 0 where
   pub imm : ℕ
   pub there : code_word file a ≡ Some word
   pub reads : decoded word ≡ Some (Jal 1 imm)
+  pub addr : s.addr ≡ a
   pub target : s.target ≡ plus a imm
   pub back : s.back ≡ a + 4
   pub pair : s.pair ≡ false
+
+-- a site is an AUIPC that gives ra and behind it a JALR through ra that links it
+pub record IsPairSite (file : List ℕ) (a : ℕ) (s : Site) : Type 0 where
+  pub first : ℕ
+  pub second : ℕ
+  pub upper : ℕ
+  pub lower : ℕ
+  pub there : code_word file a ≡ Some first
+  pub reads : decoded first ≡ Some (Auipc 1 upper)
+  pub next : code_word file (a + 4) ≡ Some second
+  pub reads_next : decoded second ≡ Some (Jalr 1 1 lower)
+  pub addr : s.addr ≡ a
+  pub target : s.target ≡ plus a (upper + lower) / 2 * 2
+  pub code : is_some (code_word file s.target) ≡ true
+  pub back : s.back ≡ a + 8
+  pub pair : s.pair ≡ true
 
 -- no site line names an address, and it is no second word
 pub record IsUnchosen (file : List ℕ) (plan : Plan) (a : ℕ) : Type 0 where
@@ -51,13 +69,13 @@ pub record MemoryGround (file new : List ℕ) : Type 0 where
   pub storable : (a : ℕ) → is_plain_store file a ≡ true → allows_store (range_at (memory_of new) a) ≡ true
 
 pub record Ground (file : List ℕ) (plan : Plan) (new : List ℕ) : Type 0 where
+  pub laws : Laws
   pub memory : MemoryGround file new
   pub entry : e_entry new ≡ e_entry file
-  -- the plan fits, every site is a JAL, and no two sites share a return address
+  -- the plan fits, and every site is a JAL or a pair
   pub fits : Fits file plan
   pub few : length plan.sites ≤ 32
-  pub jal_sites : (a : ℕ) (s : Site) → site_at file a ≡ Some s → IsJalSite file a s
-  pub backs : (a b : ℕ) (s t : Site) → site_at file a ≡ Some s → site_at file b ≡ Some t → s.back ≡ t.back → a ≡ b
+  pub sites : (a : ℕ) (s : Site) → site_at file a ≡ Some s → IsJalSite file a s ⊎ IsPairSite file a s
   -- code words are words, aligned, of code bytes below the new text, and name no x4
   pub words : (a w : ℕ) → code_word file a ≡ Some w → w < 2 ^ 32
   pub aligned : (a w : ℕ) → code_word file a ≡ Some w → a % 4 ≡ 0
@@ -67,9 +85,15 @@ pub record Ground (file : List ℕ) (plan : Plan) (new : List ℕ) : Type 0 wher
   pub aligned_text : text_at file % 4 ≡ 0
   -- a code word that no site line names and that is no second word is as in the source
   pub code : (a w : ℕ) → code_word file a ≡ Some w → IsUnchosen file plan a → fetched (memory_of new) a ≡ Some w
-  -- the chosen site of line k jumps to stub k, and the stub's words are there
-  pub jump : (k : ℕ) (line : PlanLine) → slice_get plan.sites k ≡ Some line
-      → fetched (memory_of new) line.addr ≡ Some (encoded (Jal 0 (minus (stub_at (text_at file) k) line.addr)))
-  pub stub : (k i w : ℕ) (line : PlanLine) (s : Site) → slice_get plan.sites k ≡ Some line → site_at file line.addr ≡ Some s
+  -- and so are the words of a pair that no site line names
+  pub pair_code : (a : ℕ) (s : Site) → site_at file a ≡ Some s → (pair : IsPairSite file a s)
+      → line_at plan.sites a ≡ None
+      → (fetched (memory_of new) a ≡ Some pair.first) × (fetched (memory_of new) (a + 4) ≡ Some pair.second)
+  -- the chosen site of line k has its jump to stub k, and the stub's words are there
+  pub jump : (k i w : ℕ) (line : PlanLine) (s : Site) → slice_get plan.sites k ≡ Some line
+      → site_at file line.addr ≡ Some s → slice_get (jump_words (stub_at (text_at file) k) s) i ≡ Some w
+      → fetched (memory_of new) (line.addr + 4 * i) ≡ Some w
+  pub stub : (k i w : ℕ) (line : PlanLine) (s : Site) → slice_get plan.sites k ≡ Some line
+      → site_at file line.addr ≡ Some s
       → slice_get (stub_words (stub_at (text_at file) k) line.bit s.target s.back) i ≡ Some w
       → fetched (memory_of new) (stub_at (text_at file) k + 4 * i) ≡ Some w

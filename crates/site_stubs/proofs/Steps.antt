@@ -12,12 +12,14 @@ use Rattle.flat_spec.specs.Runs.{State, step, steps}
 use Rattle.site_stubs.specs.StubRuns.{state_of}
 
 -- a running machine's turn is that of the fetched word's instruction
-pub turn_is : (input : List ℕ) (m : Machine) (w : ℕ) (o : Option Instr) → m.ending ≡ Running → fetched m.memory m.pc ≡ Some w → decoded w ≡ o
+pub turn_is : (input : List ℕ) (m : Machine) (w : ℕ) (o : Option Instr) → m.ending ≡ Running
+    → fetched m.memory m.pc ≡ Some w → decoded w ≡ o
     → turn input m ≡ executes input o m
 unfolding turn
 turn_is input m w o run e d = rw (run, e, d) refl
 
-pub step_quiet : (input output : List ℕ) (m next : Machine) → turn input m ≡ quiet input next → step (state_of m input output) ≡ state_of next input output
+pub step_quiet : (input output : List ℕ) (m next : Machine) → turn input m ≡ quiet input next
+    → step (state_of m input output) ≡ state_of next input output
 unfolding step
 step_quiet input output m next e = rw (e, append-nil output) refl
 

@@ -22,7 +22,8 @@ use Rattle.site_stubs.proofs.Steps.{next_step, step_quiet, turn_is}
 use Rattle.site_stubs.proofs.Way.{Changed, OnWay, way_bits, way_first}
 
 -- a turn of a formed instruction that stands at the pc
-pub formed_turn : (memory : List Range) (words : List ℕ) (one four pc : ℕ) (input : List ℕ) (m : Machine) (i : Instr) → OnWay memory words one four pc m
+pub formed_turn : (memory : List Range) (words : List ℕ) (one four pc : ℕ) (input : List ℕ) (m : Machine) (i : Instr)
+    → OnWay memory words one four pc m
     → fetched memory pc ≡ Some (encoded i) → IsFormed i → turn input m ≡ executes input (Some i) m
 formed_turn memory words one four pc input m i h e formed =
     turn_is input m (encoded i) (Some i) h.run (rw (h.memory_is, h.at) e) (decoded-encoded i formed)
@@ -74,17 +75,21 @@ pub and_turn : (input : List ℕ) (m : Machine) (one four : ℕ) → register m 
 unfolding acts computed
 and_turn input m one four e f = rw (e, f) refl
 
-pub auipc_turn : (input : List ℕ) (m : Machine) (pc imm : ℕ) → m.pc ≡ pc → executes input (Some (Auipc 1 imm)) m ≡ quiet input (gives 1 (plus pc imm) m)
+pub auipc_turn : (input : List ℕ) (m : Machine) (pc imm : ℕ) → m.pc ≡ pc
+    → executes input (Some (Auipc 1 imm)) m ≡ quiet input (gives 1 (plus pc imm) m)
 unfolding acts
 auipc_turn input m pc imm e = ap (λ p. quiet input (gives 1 (plus p imm) m)) e
 
-pub jalr_turn : (input : List ℕ) (m : Machine) (rd one imm target : ℕ) → register m 1 ≡ one → plus one imm / 2 * 2 ≡ target → target % 4 ≡ 0
-    → executes input (Some (Jalr rd 1 imm)) m ≡ quiet input (record m { registers = slice_set m.registers rd (behind m.pc); pc = target })
+pub jalr_turn : (input : List ℕ) (m : Machine) (rd one imm target : ℕ) → register m 1 ≡ one
+    → plus one imm / 2 * 2 ≡ target → target % 4 ≡ 0
+    → executes input (Some (Jalr rd 1 imm)) m ≡ quiet input
+    (record m { registers = slice_set m.registers rd (behind m.pc); pc = target })
 unfolding acts
 jalr_turn input m rd one imm target e t aligned = rw (e, t, aligned) refl
 
 -- the end of a way: so many turns lead to a state_of machine there
-pub record EndsAt (memory : List Range) (words : List ℕ) (one four pc : ℕ) (input output : List ℕ) (count : ℕ) (from : State) : Type 0 where
+pub record EndsAt (memory : List Range) (words : List ℕ) (one four pc : ℕ) (input output : List ℕ) (count : ℕ)
+    (from : State) : Type 0 where
   pub machine : Machine
   pub is : steps count from ≡ state_of machine input output
   pub way : OnWay memory words one four pc machine
@@ -93,9 +98,12 @@ behind_plus : (at k : ℕ) → behind (plus at k) ≡ plus at (k + 4)
 behind_plus at k = omega arith
 
 -- one more turn on the way, which gives x1 or x4 a word
-pub next_first : (memory : List Range) (words : List ℕ) (one four at k v : ℕ) (input output : List ℕ) (count : ℕ) (from : State) (i : Instr)
-    → EndsAt memory words one four (plus at k) input output count from → fetched memory (plus at k) ≡ Some (encoded i) → IsFormed i
-    → ((m : Machine) → OnWay memory words one four (plus at k) m → executes input (Some i) m ≡ quiet input (gives 1 v m))
+pub next_first : (memory : List Range) (words : List ℕ) (one four at k v : ℕ) (input output : List ℕ) (count : ℕ)
+    (from : State) (i : Instr)
+    → EndsAt memory words one four (plus at k) input output count from → fetched memory (plus at k) ≡ Some (encoded i)
+    → IsFormed i
+    → ((m : Machine) → OnWay memory words one four (plus at k) m
+    → executes input (Some i) m ≡ quiet input (gives 1 v m))
     → EndsAt memory words v four (plus at (k + 4)) input output (suc count) from
 next_first memory words one four at k v input output count from i h e formed does = record {
   machine = gives 1 v h.machine;
@@ -105,9 +113,12 @@ next_first memory words one four at k v input output count from i h e formed doe
       (way_first memory words one four (plus at k) v h.machine h.way);
 }
 
-pub next_bits : (memory : List Range) (words : List ℕ) (one four at k v : ℕ) (input output : List ℕ) (count : ℕ) (from : State) (i : Instr)
-    → EndsAt memory words one four (plus at k) input output count from → fetched memory (plus at k) ≡ Some (encoded i) → IsFormed i
-    → ((m : Machine) → OnWay memory words one four (plus at k) m → executes input (Some i) m ≡ quiet input (gives 4 v m))
+pub next_bits : (memory : List Range) (words : List ℕ) (one four at k v : ℕ) (input output : List ℕ) (count : ℕ)
+    (from : State) (i : Instr)
+    → EndsAt memory words one four (plus at k) input output count from → fetched memory (plus at k) ≡ Some (encoded i)
+    → IsFormed i
+    → ((m : Machine) → OnWay memory words one four (plus at k) m
+    → executes input (Some i) m ≡ quiet input (gives 4 v m))
     → EndsAt memory words one v (plus at (k + 4)) input output (suc count) from
 next_bits memory words one four at k v input output count from i h e formed does = record {
   machine = gives 4 v h.machine;
@@ -118,14 +129,20 @@ next_bits memory words one four at k v input output count from i h e formed does
 }
 
 -- one more turn, which goes through x1 to a target and gives x1 or x0 the address behind it
-pub next_jump : (memory : List Range) (words : List ℕ) (one four at k rd lower target : ℕ) (input output : List ℕ) (count : ℕ) (from : State)
-    → (h : EndsAt memory words one four (plus at k) input output count from) → fetched memory (plus at k) ≡ Some (encoded (Jalr rd 1 lower))
+pub next_jump : (memory : List Range) (words : List ℕ) (one four at k rd lower target : ℕ) (input output : List ℕ)
+    (count : ℕ) (from : State)
+    → (h : EndsAt memory words one four (plus at k) input output count from)
+    → fetched memory (plus at k) ≡ Some (encoded (Jalr rd 1 lower))
     → IsFormed (Jalr rd 1 lower) → plus one lower ≡ target → target % 4 ≡ 0 → (one' : ℕ)
     → Changed words (slice_set h.machine.registers rd (plus at (k + 4))) one' four
     → EndsAt memory words one' four target input output (suc count) from
 next_jump memory words one four at k rd lower target input output count from h e formed there aligned one' changed =
     let to : plus one lower / 2 * 2 ≡ target = rw there (omega (arith, aligned)) in
-    let next : Machine = record h.machine { registers = slice_set h.machine.registers rd (behind h.machine.pc); pc = target } in
+    let next : Machine = record h.machine {
+      registers = slice_set h.machine.registers rd (behind h.machine.pc);
+      pc =
+          target;
+    } in
     let link : behind h.machine.pc ≡ plus at (k + 4) = ap behind h.way.at ∙ behind_plus at k in
     record {
       machine = next;

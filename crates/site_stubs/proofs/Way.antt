@@ -16,7 +16,8 @@ pub record Changed (words now : List ℕ) (one four : ℕ) : Type 0 where
   pub bits : slice_index now 4 ≡ four
   pub others : (k : ℕ) → k ≢ 0 → k ≢ 1 → k ≢ 4 → slice_index now k ≡ slice_index words k
 
-pub change_first : (words now : List ℕ) (one four v : ℕ) → Changed words now one four → Changed words (slice_set now 1 v) v four
+pub change_first : (words now : List ℕ) (one four v : ℕ) → Changed words now one four
+    → Changed words (slice_set now 1 v) v four
 change_first words now one four v h = record {
   long = length-set now 1 v ∙ h.long;
   first = let inside : 1 < length now = omega (arith, h.long) in get_or-set_same now 1 v 0 inside;
@@ -24,7 +25,8 @@ change_first words now one four v h = record {
   others = λ k z n m. get_or-set_other now 1 k v 0 n ∙ h.others k z n m;
 }
 
-pub change_bits : (words now : List ℕ) (one four v : ℕ) → Changed words now one four → Changed words (slice_set now 4 v) one v
+pub change_bits : (words now : List ℕ) (one four v : ℕ) → Changed words now one four
+    → Changed words (slice_set now 4 v) one v
 change_bits words now one four v h = record {
   long = length-set now 4 v ∙ h.long;
   first = let apart : 1 ≢ 4 = omega arith in get_or-set_other now 4 1 v 0 apart ∙ h.first;
@@ -32,7 +34,8 @@ change_bits words now one four v h = record {
   others = λ k z n m. get_or-set_other now 4 k v 0 m ∙ h.others k z n m;
 }
 
-pub change_zero : (words now : List ℕ) (one four v : ℕ) → Changed words now one four → Changed words (slice_set now 0 v) one four
+pub change_zero : (words now : List ℕ) (one four v : ℕ) → Changed words now one four
+    → Changed words (slice_set now 0 v) one four
 change_zero words now one four v h = record {
   long = length-set now 0 v ∙ h.long;
   first = let apart : 1 ≢ 0 = omega arith in get_or-set_other now 0 1 v 0 apart ∙ h.first;
@@ -47,7 +50,8 @@ pub record OnWay (memory : List Range) (words : List ℕ) (one four pc : ℕ) (m
   pub at : m.pc ≡ pc
   pub changed : Changed words m.registers one four
 
-pub way_first : (memory : List Range) (words : List ℕ) (one four pc v : ℕ) (m : Machine) → OnWay memory words one four pc m
+pub way_first : (memory : List Range) (words : List ℕ) (one four pc v : ℕ) (m : Machine)
+    → OnWay memory words one four pc m
     → OnWay memory words v four (behind pc) (gives 1 v m)
 way_first memory words one four pc v m h = record {
   memory_is = h.memory_is;
@@ -56,7 +60,8 @@ way_first memory words one four pc v m h = record {
   changed = change_first words m.registers one four v h.changed;
 }
 
-pub way_bits : (memory : List Range) (words : List ℕ) (one four pc v : ℕ) (m : Machine) → OnWay memory words one four pc m
+pub way_bits : (memory : List Range) (words : List ℕ) (one four pc v : ℕ) (m : Machine)
+    → OnWay memory words one four pc m
     → OnWay memory words one v (behind pc) (gives 4 v m)
 way_bits memory words one four pc v m h = record {
   memory_is = h.memory_is;
@@ -80,11 +85,13 @@ pub goes_there : (from target : ℕ) → from < 2 ^ 32 → target < 2 ^ 32
     → plus (plus from (split_of (minus target from)).0) (split_of (minus target from)).1 ≡ target
 goes_there from target small low =
     let distance : minus target from < 2 ^ 32 = omega arith in
-    let sum : ((split_of (minus target from)).0 + (split_of (minus target from)).1) % 2 ^ 32 ≡ minus target from = split_sum (minus target from) distance in
+    let sum : ((split_of (minus target from)).0 + (split_of (minus target from)).1) % 2 ^ 32 ≡ minus target from =
+    split_sum (minus target from) distance in
     let upper : ℕ = (split_of (minus target from)).0 in
     let lower : ℕ = (split_of (minus target from)).1 in
     parts from target upper lower small low sum
   where
-    parts : (from target upper lower : ℕ) → from < 2 ^ 32 → target < 2 ^ 32 → (upper + lower) % 2 ^ 32 ≡ (target + (2 ^ 32 - from)) % 2 ^ 32
+    parts : (from target upper lower : ℕ) → from < 2 ^ 32 → target < 2 ^ 32
+        → (upper + lower) % 2 ^ 32 ≡ (target + (2 ^ 32 - from)) % 2 ^ 32
         → ((from + upper) % 2 ^ 32 + lower) % 2 ^ 32 ≡ target
     parts from target upper lower small low sum = omega arith

@@ -58,8 +58,10 @@ pub record GoesBack (bit back : ℕ) (m : Machine) (input output : List ℕ) : T
 
 -- words that call from wherever they stand at this place
 abbrev pub Calls : (at bit target : ℕ) → List ℕ → Type 0
-Calls at bit target words = (m : Machine) (input output : List ℕ) → RunsAt m at at words → CallsFrom at bit target m input output
+Calls at bit target words = (m : Machine) (input output : List ℕ) → RunsAt m at at words
+    → CallsFrom at bit target m input output
 
 -- and that go back, from their sixth
 abbrev pub Returns : (at bit back : ℕ) → List ℕ → Type 0
-Returns at bit back words = (m : Machine) (input output : List ℕ) → RunsAt m (plus at 20) at words → GoesBack bit back m input output
+Returns at bit back words = (m : Machine) (input output : List ℕ) → RunsAt m (plus at 20) at words
+    → GoesBack bit back m input output

@@ -28,8 +28,8 @@ pub fn stub(bit: u8, target: u32, back: u32, at: u32) -> [u32; 11]
 {
     let one = immediate(Op::Add, 0, 1);
     let shifted = immediate(Op::Sll, RA, bit as u32);
-    let [call_upper, call_lower] = jump(target.wrapping_sub(at.wrapping_add(12)), RA);
-    let [back_upper, back_lower] = jump(back.wrapping_sub(at.wrapping_add(36)), 0);
+    let [call_upper, call_lower] = far_jump(RA, RA, target.wrapping_sub(at.wrapping_add(12)));
+    let [back_upper, back_lower] = far_jump(RA, 0, back.wrapping_sub(at.wrapping_add(36)));
     [
         one,
         shifted,
@@ -71,18 +71,24 @@ fn with_tp(op: Op) -> u32
     })
 }
 
-/// The words of `auipc` with ra and of the `jalr` through it that go this far from the first; `link`
-/// takes the address behind them.
-fn jump(distance: u32, link: u8) -> [u32; 2]
-    requires { link < 32 }
-    ensures { result ≡ encoded (Instr.Auipc 1 (split_of distance).0) ∷ encoded (Instr.Jalr link 1 (split_of distance).1) ∷ [] }
+/// The words of `auipc` and of the `jalr` through the same register that go this far from the first
+/// (RISC-V unprivileged manual, "Integer Register-Immediate Instructions"); `link` takes the address
+/// behind them.
+pub fn far_jump(through: u8, link: u8, distance: u32) -> [u32; 2]
+    requires through { through < 32 }
+    requires link { link < 32 }
+    ensures { result ≡ encoded (Instr.Auipc through (split_of distance).0)
+        ∷ encoded (Instr.Jalr link through (split_of distance).1) ∷ [] }
 {
     let (upper, lower) = split(distance);
     [
-        encode(Instr::Auipc { rd: RA, imm: upper }),
+        encode(Instr::Auipc {
+            rd: through,
+            imm: upper,
+        }),
         encode(Instr::Jalr {
             rd: link,
-            rs1: RA,
+            rs1: through,
             imm: lower,
         }),
     ]
@@ -102,6 +108,11 @@ mod tests {
             ];
             assert_eq!(rt; words, wanted);
         }
+    }
+
+    #[test]
+    fn a_jump_over_a_distance(rt: HostRuntime) {
+        assert_eq!(rt; far_jump(1, 0, 0xf0c), [0x00001097, 0xf0c08067]);
     }
 
     #[test]

@@ -4,3 +4,4 @@ pub mod StoreLaw
 pub mod Lists
 pub mod MemoryLaws
 pub mod CopyLaw
+pub mod BufferLaw

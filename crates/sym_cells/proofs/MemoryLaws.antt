@@ -24,7 +24,7 @@ use Rattle.sym_cells.proofs.LoadLaw.{load_holds}
 use Rattle.sym_cells.proofs.StoreLaw.{length-low_bytes, store_holds, store_apart}
 use Rattle.sym_cells.proofs.Lists.{store_listed, length-store, spans_after, store_spans}
 
-chosen : {A : Type 0} (t : Bool) (x y : A) → (if t then Some x else None) ≡ Some y → (t ≡ true) × (x ≡ y)
+pub chosen : {A : Type 0} (t : Bool) (x y : A) → (if t then Some x else None) ≡ Some y → (t ≡ true) × (x ≡ y)
 chosen true x y e = (refl, cc)
 chosen false x y e = absurd (cc)
 
@@ -43,7 +43,7 @@ set_elsewhere (z ∷ xs) (suc i) zero x n = refl
 set_elsewhere (z ∷ xs) (suc i) (suc j) x n = set_elsewhere xs i j x (λ e. n (ap suc e))
 
 -- bytes that are there can be read
-some_of : {A : Type 0} (o : Option A) → is_some o ≡ true → (x : A) × (o ≡ Some x)
+pub some_of : {A : Type 0} (o : Option A) → is_some o ≡ true → (x : A) × (o ≡ Some x)
 some_of (Some x) e = (x, refl)
 some_of None e = absurd (cc)
 
@@ -91,7 +91,7 @@ region_load back at memory base covers cells width o a words region aligned cove
     }
 
 -- a block that is reached: its address doesn't wrap
-record Reached (at : List ℕ) (end : ℕ) (m : Memory) (b o a n : ℕ) (k : Block) : Type 0 where
+pub record Reached (at : List ℕ) (end : ℕ) (m : Memory) (b o a n : ℕ) (k : Block) : Type 0 where
   pub life : slice_get (map life_of m.blocks) b ≡ Some (life_of k)
   pub lives : k.lives ≡ true
   pub high : o + n ≤ capacity_of k
@@ -102,12 +102,11 @@ block_life : (m : Memory) (b : ℕ) (k : Block) → slice_get m.blocks b ≡ Som
     → slice_get (map life_of m.blocks) b ≡ Some (life_of k)
 block_life m b k e = slice_get-map life_of m.blocks b ∙ ap (option_map life_of) e
 
-reached : (at : List ℕ) (end : ℕ) (plain storable : ℕ → Bool) (memory : List Range) (m : Memory) (b o a n : ℕ)
+pub reached : (at : List ℕ) (end : ℕ) (plain storable : ℕ → Bool) (memory : List Range) (m : Memory) (b o a n : ℕ)
     (k : Block)
     → Laid at end plain storable memory m → slice_get m.blocks b ≡ Some k → is_inside k o n ≡ true
-    → address at b o ≡ a → zero < n
-    → Reached at end m b o a n k
-reached at end plain storable memory m b o a n k laid is inside place some =
+    → address at b o ≡ a → Reached at end m b o a n k
+reached at end plain storable memory m b o a n k laid is inside place =
     let life = block_life m b k is in
     let parts = and_parts _ _ inside in
     let high : o + n ≤ capacity_of k = leb-true _ _ parts.1 in
@@ -130,7 +129,7 @@ some_bytes HalfU = omega arith
 some_bytes Word = omega arith
 
 -- the bytes of a reached block are there and can be stored to
-block_stores : (at : List ℕ) (end : ℕ) (plain storable : ℕ → Bool) (memory : List Range) (m : Memory) (b o a n : ℕ)
+pub block_stores : (at : List ℕ) (end : ℕ) (plain storable : ℕ → Bool) (memory : List Range) (m : Memory) (b o a n : ℕ)
     (k : Block)
     → Laid at end plain storable memory m → Reached at end m b o a n k → (x : ℕ) → a ≤ x → x < a + n
     → allows_store (range_at memory x) ≡ true
@@ -169,7 +168,7 @@ loads_alike back at end plain storable memory m width (Ptr b o) x a words laid s
         let parts = and_parts _ _ test.0 in
         let aligned : o % size_of width ≡ 0 = eqb-true _ 0 parts.0 in
         let r : Reached at end m b o a (size_of width) k =
-        reached at end plain storable memory m b o a (size_of width) k laid is parts.1 h.stands (some_bytes width) in
+        reached at end plain storable memory m b o a (size_of width) k laid is parts.1 h.stands in
         let high : o + size_of width ≤ capacity_of k = r.high in
         subst (LoadsAlike back at memory width a) test.1
         (region_load back at memory (slice_index at b) (is_offset k) (cell_in k.cells) width o a words
@@ -413,7 +412,7 @@ stores_alike back at end plain storable memory m n width (Ptr b o) v a w laid st
             let parts = and_parts _ _ q in
             subst (λ y. StoresAlike back at end plain storable memory m y width a w) after
             (block_store back at end plain storable memory m width b o a w j v laid stands is
-            (reached at end plain storable memory m b o a (size_of width) j laid is parts.1 h.stands (some_bytes width))
+            (reached at end plain storable memory m b o a (size_of width) j laid is parts.1 h.stands)
             (eqb-true _ 0 parts.0) small k)
 stores_alike back at end plain storable memory m n width (Ret r) v a w laid stands h k small e = absurd (cc)
 stores_alike back at end plain storable memory m n width (Mix l) v a w laid stands h k small e = absurd (cc)

@@ -1,12 +1,12 @@
 -- When bytes of the flat machine stand for cells: a region is a range of its addresses from a base on,
 -- of which some offsets can be reached, and the cells that they stand for. Plain memory is the region
 -- from 0 on whose offsets are the plain addresses; a living block is the region from its address on.
-use Rattle.std.specs.Prelude.{◌≡◌, ◌⊎◌, ℕ, ◌+◌, ◌*◌, ◌/◌, ◌^◌, ◌<◌, ◌≤◌, List, Bool, true, Some, is_some, nat_lt, map, slice_get, slice_index}
+use Rattle.std.specs.Prelude.{◌≡◌, ◌⊎◌, ℕ, ◌+◌, ◌*◌, ◌/◌, ◌^◌, ◌<◌, ◌≤◌, List, Bool, true, Some, is_some, nat_lt, length, map, slice_get, slice_index}
 use Rattle.rv_isa.specs.declared.Width.{Width}
 use Rattle.machine_spec.specs.Memory.{Range, range_at, byte_of, all_from}
 use Rattle.machine_spec.specs.Widths.{number_of, low_bytes, size_of}
 use Rattle.flat_spec.specs.Stores as flat
-use Rattle.flat_spec.specs.Stores.{allows_store, bytes_from, put_bytes}
+use Rattle.flat_spec.specs.Stores.{allows_store, bytes_from, can_store, put_bytes}
 use Rattle.sym_value.specs.declared.Value.{Value}
 use Rattle.sym_value.specs.declared.Value.TheVariants.{Mix}
 use Rattle.sym_value.specs.declared.live.Life.{Life}
@@ -88,3 +88,13 @@ pub record StoresAlike (back : ℕ → ℕ) (at : List ℕ) (end : ℕ) (plain s
   pub laid : Laid at end plain storable (put_bytes memory a (low_bytes (size_of width) w)) n
   pub lives : map life_of n.blocks ≡ map life_of m.blocks
   pub went : (x : ℕ) → a ≤ x → x < a + size_of width → (storable x ≡ true) ⊎ InBlock at m x
+
+-- a read into a buffer of so many bytes on the flat machine, which stores these, after which the memories
+-- still stand and lie as before
+pub record FillsAlike (back : ℕ → ℕ) (at : List ℕ) (end : ℕ) (plain storable : ℕ
+    → Bool) (memory : List Range) (m n : Memory) (size a : ℕ) (bs : List ℕ) : Type 0 where
+  pub there : can_store memory a size ≡ true
+  pub stands : MemoryStands back at plain (put_bytes memory a bs) n
+  pub laid : Laid at end plain storable (put_bytes memory a bs) n
+  pub lives : map life_of n.blocks ≡ map life_of m.blocks
+  pub went : (x : ℕ) → a ≤ x → x < a + length bs → (storable x ≡ true) ⊎ InBlock at m x

@@ -1,6 +1,6 @@
 // Laws of symbol memory, each an empty function whose contract is proved: what loads and stores keep of
 // the flat machine's bytes that stand for cells, over any region and then over the whole memory.
-ghost use Rattle.std.specs.Prelude.{◌≡◌, ◌⊎◌, ℕ, ◌+◌, ◌*◌, ◌/◌, ◌%◌, ◌^◌, ◌<◌, ◌≤◌, List, Bool, true, Some, length};
+ghost use Rattle.std.specs.Prelude.{◌≡◌, ◌⊎◌, ℕ, ◌+◌, ◌*◌, ◌/◌, ◌%◌, ◌^◌, ◌<◌, ◌≤◌, List, All, Bool, true, Some, length};
 ghost use Rattle.rv_isa.specs.declared.Width.{Width};
 ghost use Rattle.rv_isa.specs.declared.Width.TheVariants.{Word};
 ghost use Rattle.machine_spec.specs.Widths.{number_of, low_bytes, size_of, loaded_as};
@@ -12,7 +12,8 @@ ghost use Rattle.sym_value.specs.Standing.{Holds};
 ghost use Rattle.sym_cells.specs.Cells.{Cell, Cells, cell_in};
 ghost use Rattle.sym_cells.specs.Moves.{value_of, load_at, store_at, store, copy_inside, copy_across};
 ghost use Rattle.sym_cells.specs.Memory.{Span, Memory, has_cell, cell_at, store_plain, loaded, stored};
-ghost use Rattle.sym_cells.specs.Region.{Region, AreWords, MemoryStands, IsThere, Laid, LoadsAlike, StoresAlike};
+ghost use Rattle.sym_cells.specs.Buffers.{is_within, taken, filled};
+ghost use Rattle.sym_cells.specs.Region.{Region, AreWords, MemoryStands, IsThere, Laid, LoadsAlike, StoresAlike, FillsAlike};
 
 /// A load at an aligned offset of a region gives a value for which the flat machine's word stands.
 pub fn a_load_stands_for_the_flat_load()
@@ -70,6 +71,21 @@ pub fn loads_and_stores_are_alike()
         → Laid at end plain storable memory m → MemoryStands back at plain memory m
         → Holds back at p a → Holds back at v w → w < 2 ^ 32 → stored storable m width p v ≡ Some n
         → StoresAlike back at end plain storable memory m n width a w }
+{}
+
+/// Where a word stands for the start of a buffer: the bytes that a write takes on the symbol machine are
+/// those that it takes on the flat one, and after a read into the buffer on both machines the memory of
+/// the flat one still stands for the symbol machine's and lies as it did.
+pub fn buffers_are_alike()
+    ensures writes { (back : ℕ → ℕ) (at : List ℕ) (end : ℕ) (plain storable : ℕ → Bool) (memory : List Range)
+        (m : Memory) (n : ℕ) (p : Value) (a : ℕ) (bs : List ℕ)
+        → Laid at end plain storable memory m → MemoryStands back at plain memory m → Holds back at p a
+        → is_within plain m n p ≡ true → taken m n p ≡ Some bs → bytes_from memory a n ≡ Some bs }
+    ensures reads { (back : ℕ → ℕ) (at : List ℕ) (end : ℕ) (plain storable : ℕ → Bool) (memory : List Range)
+        (m n : Memory) (size : ℕ) (bs : List ℕ) (p : Value) (a : ℕ)
+        → Laid at end plain storable memory m → MemoryStands back at plain memory m → Holds back at p a
+        → All (λ b. b < 256) bs → length bs ≤ size → filled storable m size bs p ≡ Some n
+        → FillsAlike back at end plain storable memory m n size a bs }
 {}
 
 /// A pointer or a return address that is copied byte by byte, load by load and store by store, is itself

@@ -6,7 +6,8 @@ mod laws;
 
 pub use laws::{
     a_copy_byte_by_byte_is_whole, a_load_stands_for_the_flat_load,
-    a_store_into_a_list_is_the_store, a_store_keeps_every_region, loads_and_stores_are_alike,
+    a_store_into_a_list_is_the_store, a_store_keeps_every_region, buffers_are_alike,
+    loads_and_stores_are_alike,
 };
 use sym_value::Whole;
 

@@ -1,7 +1,7 @@
-pub mod Values
-pub mod Cells
 pub mod Plain
+pub mod StartMemory
 pub mod SymMachine
 pub mod SymCalls
 pub mod SymTurns
 pub mod SymRuns
+pub mod SymNotes

@@ -1,14 +1,13 @@
 -- The bytes that a program may use as its own: those of the image and of the stack, without the
 -- executable sections and without the bytes of the file header (file offsets 0 to 51).
-use Rattle.std.specs.Prelude.{Option, None, if◌then◌else◌, ℕ, ◌+◌, ◌-◌, ◌*◌, List, Bool, not, ◌&&◌, ◌||◌, nat_le, nat_lt}
+use Rattle.std.specs.Prelude.{ℕ, ◌+◌, ◌-◌, List, Bool, not, ◌&&◌, ◌||◌, nat_le, nat_lt}
 use Rattle.std.specs.List.{list_any}
 use Rattle.elf_spec.specs.declared.Segment.{Segment}
 use Rattle.elf_spec.specs.Fields.{is_set}
 use Rattle.elf_spec.specs.Records.{segments_of, sections_of}
 use Rattle.elf_spec.specs.Memory.{is_loaded}
-use Rattle.machine_spec.specs.Memory.{stack_start, stack_size, memory_of, byte_of}
+use Rattle.machine_spec.specs.Memory.{stack_start, stack_size}
 use Rattle.elf_spec.specs.Code.{is_executable, holds_address}
-use Rattle.sym_spec.specs.Cells.{Bytes, Cells}
 
 abbrev pub is_stack : ℕ → Bool
 is_stack a = nat_le stack_start a && nat_lt a (stack_start + stack_size)
@@ -27,18 +26,10 @@ is_code_byte file a = list_any (λ s. is_executable s && holds_address a s) (sec
 unfoldable pub is_plain : List ℕ → ℕ → Bool
 is_plain file a =
     is_stack a
-    || (list_any (is_in a) (segments_of file) && (not (is_code_byte file a) && not (list_any (is_header_byte a) (segments_of file))))
+    || (list_any (is_in a) (segments_of file) && (not (is_code_byte file a)
+    && not (list_any (is_header_byte a) (segments_of file))))
 
 -- a plain byte that can be stored to: on the stack or in a segment with flag W (2)
 unfoldable pub is_plain_store : List ℕ → ℕ → Bool
 is_plain_store file a =
     is_plain file a && (is_stack a || list_any (λ s. is_in a s && is_set 2 s.flags) (segments_of file))
-
--- the byte of memory at the start, where it is plain
-abbrev pub start_byte : List ℕ → ℕ → Option ℕ
-start_byte file a = if is_plain file a then byte_of (memory_of file) a else None
-
--- the cells at the start: every plain byte is known
-unfoldable pub start_cells : List ℕ → Cells
-start_cells file k =
-    Bytes (start_byte file (4 * k)) (start_byte file (4 * k + 1)) (start_byte file (4 * k + 2)) (start_byte file (4 * k + 3))

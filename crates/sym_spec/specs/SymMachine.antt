@@ -1,7 +1,8 @@
 -- The symbol machine between two turns, and the ways in which a step changes it.
 use Rattle.std.specs.Prelude.{ℕ, ◌-◌, ◌^◌, ◌==◌, List, Bool, false, Option, Some, None, is_some, find, position, map, if◌then◌else◌, slice_get, slice_index_or, slice_set, bit_and, bit_or, option_and_then}
 use Rattle.elf_spec.specs.Code.{code_word}
-use Rattle.elf_spec.specs.Records.{e_entry}
+use Rattle.elf_spec.specs.Memory.{image_end}
+use Rattle.elf_spec.specs.Records.{e_entry, segments_of}
 use Rattle.plan_core.specs.declared.types.Plan.{Plan}
 use Rattle.plan_core.specs.declared.types.PlanLine.{PlanLine}
 use Rattle.site_spec.specs.declared.Site.{Site}
@@ -11,18 +12,23 @@ use Rattle.machine_spec.specs.declared.Ending.TheVariants.{Running, Fault}
 use Rattle.machine_spec.specs.declared.FaultKind.{FaultKind}
 use Rattle.machine_spec.specs.declared.FaultKind.TheVariants.{F1, F3}
 use Rattle.machine_spec.specs.Start.{start_registers, behind}
-use Rattle.sym_spec.specs.declared.Value.{Value}
-use Rattle.sym_spec.specs.declared.Value.TheVariants.{Num, Ret, Unset}
-use Rattle.sym_spec.specs.Cells.{Cells}
-use Rattle.sym_spec.specs.Plain.{start_cells}
+use Rattle.sym_value.specs.declared.Value.{Value}
+use Rattle.sym_value.specs.declared.Value.TheVariants.{Num, Ret, Unset}
+use Rattle.sym_value.specs.Places.{Lives}
+use Rattle.sym_cells.specs.Memory.{Memory, live_of}
+use Rattle.sym_spec.specs.StartMemory.{start_memory}
 
 -- it has 32 registers, and the bits of the chosen sites
 pub record SymMachine : Type 0 where
-  pub cells : Cells
+  pub memory : Memory
   pub registers : List Value
   pub pc : ℕ
   pub bits : ℕ
   pub ending : Ending
+
+-- the blocks so far and the image's end, as values see them
+abbrev pub lives_of : List ℕ → SymMachine → Lives
+lives_of file m = live_of (image_end (segments_of file)) m.memory
 
 -- what a register reads: x0 reads 0, whatever was written to it
 abbrev pub value_read : List Value → ℕ → Value
@@ -50,8 +56,8 @@ abbrev pub loads : ℕ → Option Value → SymMachine → SymMachine
 loads r (Some v) m = gives r v m
 loads r None m = faults F1 m
 
-abbrev pub stores : Option Cells → SymMachine → SymMachine
-stores (Some cells) m = record m { cells = cells; pc = behind m.pc }
+abbrev pub stores : Option Memory → SymMachine → SymMachine
+stores (Some memory) m = record m { memory = memory; pc = behind m.pc }
 stores None m = faults F1 m
 
 -- the site line of a call at an address
@@ -107,7 +113,7 @@ goes_back file plan back m = record m {
 -- the machine that is about to run a file
 unfoldable pub start : List ℕ → SymMachine
 start file = record {
-  cells = start_cells file;
+  memory = start_memory file;
   registers = map (λ w. Num w) start_registers;
   pc = e_entry file;
   bits = 0;

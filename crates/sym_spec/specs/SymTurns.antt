@@ -1,12 +1,10 @@
 -- One turn of the symbol machine: one instruction, or the call of a pair site, or an ending.
-use Rattle.std.specs.Prelude.{ℕ, ◌+◌, ◌-◌, ◌*◌, ◌/◌, ◌%◌, ◌==◌, List, Bool, true, false, ◌&&◌, ◌||◌, Option, Some, None, nat_le, if◌then◌else◌}
+use Rattle.std.specs.Prelude.{ℕ, ◌+◌, ◌-◌, ◌*◌, ◌/◌, ◌==◌, List, Bool, true, false, ◌&&◌, ◌||◌, Option, Some, None, nat_le, if◌then◌else◌}
 use Rattle.std.specs.List.{list_any}
 use Rattle.rv_isa.specs.declared.Instr.{Instr}
 use Rattle.rv_isa.specs.declared.Instr.TheVariants.{Lui, Auipc, Jal, Jalr, Branch, Load, Store, OpImm, Reg, Fence, Ecall, Ebreak}
 use Rattle.rv_isa.specs.declared.Op.TheVariants.{Add}
-use Rattle.rv_isa.specs.declared.Width.{Width}
 use Rattle.rv_isa.specs.Table.{decoded}
-use Rattle.machine_spec.specs.Widths.{size_of}
 use Rattle.elf_spec.specs.Code.{code_word}
 use Rattle.elf_spec.specs.Heap.{heap_entries}
 use Rattle.plan_core.specs.declared.types.Plan.{Plan}
@@ -16,34 +14,24 @@ use Rattle.site_spec.specs.Sites.{site_at}
 use Rattle.machine_spec.specs.declared.Ending.{Ending}
 use Rattle.machine_spec.specs.declared.Ending.TheVariants.{Running, Exit, Illegal, Fault}
 use Rattle.machine_spec.specs.declared.FaultKind.TheVariants.{F2, F3, F6}
-use Rattle.sym_spec.specs.declared.Value.{Value}
-use Rattle.sym_spec.specs.declared.Value.TheVariants.{Num, Ret, Unset}
-use Rattle.sym_spec.specs.Values.{apply, decide}
-use Rattle.sym_spec.specs.Cells.{Cells, value_at, store_value}
-use Rattle.machine_spec.specs.Memory.{all_from}
+use Rattle.sym_value.specs.declared.Value.{Value}
+use Rattle.sym_value.specs.declared.Value.TheVariants.{Num, Ret}
+use Rattle.sym_value.specs.Decisions.{decide}
+use Rattle.sym_value.specs.Operations.{apply}
+use Rattle.sym_cells.specs.Memory.{loaded, stored}
 use Rattle.sym_spec.specs.Plain.{is_plain, is_plain_store}
-use Rattle.sym_spec.specs.SymMachine.{SymMachine, value_of, gives, passes, ends, faults, loads, stores, goes_to, jumps, calls_from, goes_back}
+use Rattle.sym_spec.specs.SymMachine.{SymMachine, lives_of, value_of, gives, passes, ends, faults, loads, stores, goes_to, jumps, calls_from, goes_back}
 use Rattle.sym_spec.specs.SymCalls.{SymTurn, quiet, calls}
 
--- the value of a load; none where its address isn't aligned or not all its bytes are plain
-abbrev pub loaded : List ℕ → Cells → Width → Value → Option Value
-loaded file cells width (Num a) =
-    if (a % size_of width == 0) && all_from (is_plain file) a (size_of width) then Some (value_at cells width a) else None
-loaded file cells width (Ret back) = None
-loaded file cells width Unset = None
-
--- the cells after a store; none where its address isn't aligned or not all its bytes can be stored
-abbrev pub stored : List ℕ → Cells → Width → Value → Value → Option Cells
-stored file cells width (Num a) value =
-    if (a % size_of width == 0) && all_from (is_plain_store file) a (size_of width) then Some (store_value width a value cells) else None
-stored file cells width (Ret back) value = None
-stored file cells width Unset value = None
+-- the address of a load or a store
+abbrev pub address_of : List ℕ → SymMachine → ℕ → ℕ → Value
+address_of file m rs1 imm = apply (lives_of file m) Add (value_of m rs1) (Num imm)
 
 -- a jump to a register: `jalr x0, 0(r)` goes back to a return address, and no other jump goes to one
 abbrev pub jumps_to : List ℕ → Plan → ℕ → ℕ → Value → SymMachine → SymMachine
 jumps_to file plan rd imm (Num v) m = jumps file plan rd (plus v imm / 2 * 2) m
 jumps_to file plan rd imm (Ret back) m = if (rd == 0) && (imm == 0) then goes_back file plan back m else faults F3 m
-jumps_to file plan rd imm Unset m = faults F3 m
+jumps_to file plan rd imm v m = faults F3 m
 
 abbrev pub branches : List ℕ → Option Bool → ℕ → SymMachine → SymMachine
 branches file (Some true) target m = goes_to file target m
@@ -56,12 +44,14 @@ acts file plan (Lui rd imm) m = gives rd (Num imm) m
 acts file plan (Auipc rd imm) m = gives rd (Num (plus m.pc imm)) m
 acts file plan (Jal rd imm) m = jumps file plan rd (plus m.pc imm) m
 acts file plan (Jalr rd rs1 imm) m = jumps_to file plan rd imm (value_of m rs1) m
-acts file plan (Branch cond rs1 rs2 imm) m = branches file (decide cond (value_of m rs1) (value_of m rs2)) (plus m.pc imm) m
-acts file plan (Load width rd rs1 imm) m = loads rd (loaded file m.cells width (apply Add (value_of m rs1) (Num imm))) m
+acts file plan (Branch cond rs1 rs2 imm) m =
+    branches file (decide (lives_of file m) cond (value_of m rs1) (value_of m rs2)) (plus m.pc imm) m
+acts file plan (Load width rd rs1 imm) m =
+    loads rd (loaded (is_plain file) m.memory width (address_of file m rs1 imm)) m
 acts file plan (Store width rs1 rs2 imm) m =
-    stores (stored file m.cells width (apply Add (value_of m rs1) (Num imm)) (value_of m rs2)) m
-acts file plan (OpImm op rd rs1 imm) m = gives rd (apply op (value_of m rs1) (Num imm)) m
-acts file plan (Reg op rd rs1 rs2) m = gives rd (apply op (value_of m rs1) (value_of m rs2)) m
+    stores (stored (is_plain_store file) m.memory width (address_of file m rs1 imm) (value_of m rs2)) m
+acts file plan (OpImm op rd rs1 imm) m = gives rd (apply (lives_of file m) op (value_of m rs1) (Num imm)) m
+acts file plan (Reg op rd rs1 rs2) m = gives rd (apply (lives_of file m) op (value_of m rs1) (value_of m rs2)) m
 acts file plan (Fence rest) m = passes m
 acts file plan Ecall m = m
 acts file plan Ebreak m = ends (Illegal m.pc) m

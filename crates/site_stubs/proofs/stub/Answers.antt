@@ -10,7 +10,8 @@ returns-clause-words c = search rules
 pub returns-clause-calls : goal.returns-clause-calls
 returns-clause-calls c =
     subst (Calls c.args.at c.args.bit c.args.target) (sym (returns-clause-words c))
-    (calls c.args.at c.args.bit c.args.target c.args.back c.ranges.at.fits c.requires.bit c.ranges.target.fits c.requires.target)
+    (calls c.args.at c.args.bit c.args.target c.args.back c.ranges.at.fits c.requires.bit c.ranges.target.fits
+    c.requires.target)
 
 pub returns-clause-returns : goal.returns-clause-returns
 returns-clause-returns c =

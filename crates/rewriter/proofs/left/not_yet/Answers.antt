@@ -18,4 +18,5 @@ returns-then-is_left c =
       | inr k ↦ no_word c.args.image.now b (c.in_ok-addr.ensures.first b k l)
     ] in
     sym (below_hit (is_left_at c.args.image.now) c.in_ok-addr.addr (image_end (segments_of c.args.image.now))
-    (below_all (is_left_at c.args.image.now) c.in_ok-addr.addr below) (sym c.if-is_left.ensures) (omega (arith, c.in_ok-addr.ensures.found)))
+    (below_all (is_left_at c.args.image.now) c.in_ok-addr.addr below) (sym c.if-is_left.ensures)
+    (omega (arith, c.in_ok-addr.ensures.found)))

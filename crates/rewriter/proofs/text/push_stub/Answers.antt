@@ -4,4 +4,5 @@ use Rattle.rewriter.proofs.text.push_stub.Goals as goal
 
 pub returns-in_ok-push_words-clause-is : goal.returns-in_ok-push_words-clause-is
 returns-in_ok-push_words-clause-is c =
-    stub_bytes _ _ _ c.stub_place-at.result _ _ _ c.in-Some.site c.in_ok-push_words.ensures.is c.stub.ensures.words c.stub_place-at.ensures.exact c.in-Some.ensures.exact
+    stub_bytes _ _ _ c.stub_place-at.result _ _ _ c.in-Some.site c.in_ok-push_words.ensures.is c.stub.ensures.words
+    c.stub_place-at.ensures.exact c.in-Some.ensures.exact

@@ -1,7 +1,0 @@
--- The jump to the stub of a chosen site is an instruction.
-use Rattle.rewriter.proofs.ChosenSites.{formed_jump}
-use Rattle.rewriter.proofs.patches.push_patch.Goals as goal
-
--- src/patches.rt:37:23
-pub encode-requires : goal.encode-requires
-encode-requires c = formed_jump c.args.image.now c.args.line c.args.number _ c.in-Some.site c.requires.facts c.requires.no_pairs c.requires.reach c.in-Some.ensures.exact c.stub_place.ensures.exact c.stub_place.ensures.aligned c.stub_place.ensures.low
