@@ -106,7 +106,7 @@ fn the_first_refusal_in_order_is_told(rt: HostRuntime) -> Result<(), Fail> {
         (b"halo-plan 1\n", Some(EMPTY), 66, "halo: plan: line 2\n"),
         (misfit, Some(EMPTY), 65, "halo: file: not elf\n"),
         (misfit, Some(&takes), 66, "halo: plan: area\n"),
-        (EMPTY, Some(&takes), 65, "halo: file: not yet at 00010104\n"),
+        (EMPTY, Some(&takes), 65, "halo: file: not yet at 00010118\n"),
     ];
     for (plan, file, status, text) in table {
         let answer = call(rt.alloc(), REWRITE, Some(plan), file, b"")?;

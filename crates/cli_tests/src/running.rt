@@ -39,6 +39,44 @@ fn programs_run_to_their_exits(rt: HostRuntime) -> Result<(), Fail> {
 }
 
 #[test]
+fn steps_stand_before_and_behind_the_file_in_one_word_or_two(rt: HostRuntime) -> Result<(), Fail> {
+    let file = file_of(rt.alloc(), &EXITS)?;
+    let lines: [(&[&str], u8, &str); 6] = [
+        (&["run", "--steps=3", "file"], 0, "exit 0 after 3 steps\n"),
+        (
+            &["run", "file", "--steps", "3"],
+            0,
+            "exit 0 after 3 steps\n",
+        ),
+        (&["run", "file", "--steps=3"], 0, "exit 0 after 3 steps\n"),
+        (
+            &["run", "--steps", "2", "file"],
+            70,
+            "halo: still running after 2 steps\n",
+        ),
+        (
+            &["run", "--steps=2", "file"],
+            70,
+            "halo: still running after 2 steps\n",
+        ),
+        (
+            &["run", "file", "--steps", "2"],
+            70,
+            "halo: still running after 2 steps\n",
+        ),
+    ];
+    for (words, status, note) in lines {
+        let answer = call(rt.alloc(), words, None, Some(&file), b"")?;
+        if status == 0 {
+            assert!(rt; is_done(&answer, b"", note), "at {note}");
+        } else {
+            assert!(rt; is_refused(&answer, status, note), "at {note}");
+        }
+    }
+    Ok(())
+}
+
+#[test]
 fn runs_that_end_otherwise_have_their_statuses(rt: HostRuntime) -> Result<(), Fail> {
     let words: &[&str] = &["run", "--steps", "2", "file"];
     let table: [(u32, u8, &str); 3] = [

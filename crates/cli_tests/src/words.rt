@@ -5,7 +5,7 @@ use std::test::Fail;
 
 #[test]
 fn words_that_are_no_line_are_refused_at_the_first_wrong_one(rt: HostRuntime) -> Result<(), Fail> {
-    let table: [(&[&str], &str); 22] = [
+    let table: [(&[&str], &str); 33] = [
         (&[], "halo: usage: word 0\n"),
         (&["shows"], "halo: usage: word 0\n"),
         (&["show"], "halo: usage: word 1\n"),
@@ -29,6 +29,23 @@ fn words_that_are_no_line_are_refused_at_the_first_wrong_one(rt: HostRuntime) ->
             &["run", "--steps", "3", "file", "more"],
             "halo: usage: word 4\n",
         ),
+        (&["run", "--steps=x", "file"], "halo: usage: word 1\n"),
+        (&["run", "--steps=3=4", "file"], "halo: usage: word 1\n"),
+        (&["run", "--steps=", "file"], "halo: usage: word 1\n"),
+        (&["run", "--steps=3"], "halo: usage: word 2\n"),
+        (&["run", "file", "--steps"], "halo: usage: word 3\n"),
+        (
+            &["run", "file", "--steps", "3", "--steps=4"],
+            "halo: usage: word 4\n",
+        ),
+        (
+            &["run", "--steps=3", "file", "--steps", "3"],
+            "halo: usage: word 3\n",
+        ),
+        (&["run", "--", "file"], "halo: usage: word 1\n"),
+        (&["run", "file", "--"], "halo: usage: word 2\n"),
+        (&["run", "--steps", "--", "file"], "halo: usage: word 2\n"),
+        (&["show", "--steps=3", "file"], "halo: usage: word 1\n"),
         (&["", "plan", "file"], "halo: usage: word 0\n"),
         (&["rewrite"], "halo: usage: word 1\n"),
         (&["rewrite", ""], "halo: usage: word 1\n"),

@@ -1,9 +1,13 @@
--- Lemmas on the grammar, on what commands come to, and on the answers of the whole call.
-pub mod Grammar
+-- Lemmas on what commands come to, and on the answers of the whole call.
 pub mod ReadsDue
+pub mod CommandLaws
 pub mod RewriteDue
 pub mod RunDue
 pub mod ShowDue
 pub mod Due
+pub mod Stopping
+pub mod RewriteReads
+pub mod RewriteEnds
+pub mod ShowEnds
 pub mod Rows
 pub mod RunEnds

@@ -10,7 +10,8 @@ use Rattle.endings.specs.declared.endings.BadFile.TheVariants.{TooLong}
 use Rattle.halo_cli.specs.Reads.{FileComes, IsNoFile, HasReadCause}
 
 -- a limit is passed or not
-pub limit_once : (test : Bool) (refused : Ending) (Comes : Ending → Type 0) → ((a b : Ending) → Comes a → Comes b → a ≡ b)
+pub limit_once : (test : Bool) (refused : Ending) (Comes : Ending → Type 0)
+    → ((a b : Ending) → Comes a → Comes b → a ≡ b)
     → (a b : Ending) → MatchBool test (a ≡ refused) (Comes a) → MatchBool test (b ≡ refused) (Comes b) → a ≡ b
 limit_once true refused Comes once a b at_a at_b = at_a ∙ sym at_b
 limit_once false refused Comes once a b at_a at_b = once a b at_a at_b
@@ -18,7 +19,8 @@ limit_once false refused Comes once a b at_a at_b = once a b at_a at_b
 -- a length within its limit
 pub within : (limit len : ℕ) (P Q : Type 0) → len ≤ limit → Q → MatchBool (nat_lt limit len) P Q
 within limit len P Q fits holds =
-    let test : nat_lt limit len ≡ false = grind (arith, nat_tests) in subst (λ (b : Bool). MatchBool b P Q) (sym test) holds
+    let test : nat_lt limit len ≡ false = grind (arith, nat_tests) in
+    subst (λ (b : Bool). MatchBool b P Q) (sym test) holds
 
 of_within : (limit len : ℕ) (P Q : Type 0) → len ≤ limit → MatchBool (nat_lt limit len) P Q → Q
 of_within limit len P Q fits holds =
@@ -40,8 +42,14 @@ pub no_exit : (exit steps : ℕ) → (Exited exit steps ≡ ReadFault) ⊎ IsDec
 no_exit exit steps (inl is) = cc
 no_exit exit steps (inr decided) = decided
 
+-- no word is wrong there
+pub no_usage : (place : ℕ) → (Usage place ≡ ReadFault) ⊎ IsDecided (Usage place) → ⊥
+no_usage place (inl is) = cc
+no_usage place (inr decided) = decided
+
 -- an ending to which what was read brings the command, or want of memory, has its cause
-pub has_cause : (Brings : Ending → Type 0) (before now : FilesSeen) (ending : Ending) → Brings ending ⊎ (ending ≡ Memory) → HasReadCause Brings before now ending
+pub has_cause : (Brings : Ending → Type 0) (before now : FilesSeen) (ending : Ending)
+    → Brings ending ⊎ (ending ≡ Memory) → HasReadCause Brings before now ending
 has_cause Brings before now ending (inr is) = subst (λ e. HasReadCause Brings before now e) (sym is) tt
 has_cause Brings before now ReadFault (inl brings) = inr brings
 has_cause Brings before now Memory (inl brings) = tt
@@ -60,25 +68,31 @@ module _ (limit : ℕ) (Decide : List ℕ → Ending → Type 0) where
   pub file_once : ((file : List ℕ) (a b : Ending) → Decide file a → Decide file b → a ≡ b)
       → (file : Option (List ℕ)) (a b : Ending) → FileComes limit file Decide a → FileComes limit file Decide b → a ≡ b
   file_once once None a b at_a at_b = at_a ∙ sym at_b
-  file_once once (Some file) a b at_a at_b = limit_once (nat_lt limit (length file)) (File TooLong) (Decide file) (once file) a b at_a at_b
+  file_once once (Some file) a b at_a at_b =
+      limit_once (nat_lt limit (length file)) (File TooLong) (Decide file) (once file) a b at_a at_b
 
   -- a told file that was read is the one that decides
   pub told_comes : (contents : Contents) (name file : List ℕ) (ending : Ending)
-      → contents_of contents name ≡ Some file → length file ≤ limit → Decide file ending → FileComes limit (contents_of contents name) Decide ending
+      → contents_of contents name ≡ Some file → length file ≤ limit → Decide file ending
+      → FileComes limit (contents_of contents name) Decide ending
   told_comes contents name file ending is fits decides =
       subst (λ (found : Option (List ℕ)). FileComes limit found Decide ending) (sym is)
       (within limit (length file) (ending ≡ File TooLong) (Decide file ending) fits decides)
 
   pub of_told_comes : (contents : Contents) (name file : List ℕ) (ending : Ending)
-      → contents_of contents name ≡ Some file → length file ≤ limit → FileComes limit (contents_of contents name) Decide ending → Decide file ending
+      → contents_of contents name ≡ Some file → length file ≤ limit
+      → FileComes limit (contents_of contents name) Decide ending → Decide file ending
   of_told_comes contents name file ending is fits comes =
       of_within limit (length file) (ending ≡ File TooLong) (Decide file ending) fits
       (subst (λ (found : Option (List ℕ)). FileComes limit found Decide ending) is comes)
 
-  lacking_comes : (contents : Contents) (name : List ℕ) → contents_of contents name ≡ None → FileComes limit (contents_of contents name) Decide ReadFault
-  lacking_comes contents name is = subst (λ (found : Option (List ℕ)). FileComes limit found Decide ReadFault) (sym is) refl
+  lacking_comes : (contents : Contents) (name : List ℕ) → contents_of contents name ≡ None
+      → FileComes limit (contents_of contents name) Decide ReadFault
+  lacking_comes contents name is =
+      subst (λ (found : Option (List ℕ)). FileComes limit found Decide ReadFault) (sym is) refl
 
-  long_comes : (found : Option (List ℕ)) → IsSomeAnd found (λ bytes. limit < length bytes) → FileComes limit found Decide (File TooLong)
+  long_comes : (found : Option (List ℕ)) → IsSomeAnd found (λ bytes. limit < length bytes)
+      → FileComes limit found Decide (File TooLong)
   long_comes None long = absurd long
   long_comes (Some file) long =
       let test : nat_lt limit (length file) ≡ true = grind (arith, nat_tests) in
@@ -86,13 +100,15 @@ module _ (limit : ℕ) (Decide : List ℕ → Ending → Type 0) where
 
   -- a file that wasn't read of told contents
   pub no_file_comes : (contents : Contents) (name : List ℕ) (before now : FilesSeen) (ending : Ending)
-      → before.told ≡ Some contents → IsNoFile name limit before now ending → FileComes limit (contents_of contents name) Decide ending
+      → before.told ≡ Some contents → IsNoFile name limit before now ending
+      → FileComes limit (contents_of contents name) Decide ending
   no_file_comes contents name before now ending told (inl (is, lacks)) =
       subst (λ e. FileComes limit (contents_of contents name) Decide e) (sym is)
       (lacking_comes contents name (subst (λ seen. Lacks seen name) told lacks))
   no_file_comes contents name before now ending told (inr (is, long)) =
       subst (λ e. FileComes limit (contents_of contents name) Decide e) (sym is)
-      (long_comes (contents_of contents name) (subst (λ seen. IsTooLong seen name limit before.taken now.taken) told long))
+      (long_comes (contents_of contents name)
+      (subst (λ seen. IsTooLong seen name limit before.taken now.taken) told long))
 
   -- only told contents lack a file
   pub lacks_told : (told : Option Contents) (name : List ℕ) → Lacks told name
@@ -102,7 +118,8 @@ module _ (limit : ℕ) (Decide : List ℕ → Ending → Type 0) where
 
   -- the file is lacking, or its bytes decide
   pub decided_file : ((file : List ℕ) (ending : Ending) → Decide file ending → IsDecided ending)
-      → (file : Option (List ℕ)) (ending : Ending) → FileComes limit file Decide ending → (ending ≡ ReadFault) ⊎ IsDecided ending
+      → (file : Option (List ℕ)) (ending : Ending) → FileComes limit file Decide ending
+      → (ending ≡ ReadFault) ⊎ IsDecided ending
   decided_file decided None ending is = inl is
   decided_file decided (Some file) ending comes = inr (at (nat_lt limit (length file)) comes)
     where

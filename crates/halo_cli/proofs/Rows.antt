@@ -6,19 +6,17 @@ use Rattle.endings.specs.declared.endings.Ending.{Ending}
 use Rattle.endings.specs.declared.endings.Ending.TheVariants.{Done, Usage, File, Plan, ReadFault, WriteFault, Memory, Exited, StillRunning, Fault, Illegal}
 use Rattle.endings.specs.declared.endings.BadFile.{BadFile}
 use Rattle.endings.specs.declared.endings.BadPlan.{BadPlan}
-use Rattle.halo_cli.specs.Words.{Asked, AsksFor, IsLine, IsFirstWrong}
-use Rattle.halo_cli.specs.Words.Asked.{Rewrite, Run, Show}
+use Rattle.halo_words.specs.Table.{the_table}
+use Rattle.halo_words.specs.Grammar.{Asked, AsksFor, IsLine, IsFirstWrong}
 use Rattle.endings.specs.Endings.{status_of}
-use Rattle.halo_cli.specs.Writing.{IsStop}
-use Rattle.halo_cli.specs.Run.{IsUnmoved}
-use Rattle.halo_cli.specs.Commands.{CommandComes, Brings, Leaves}
+use Rattle.halo_cli.specs.Writing.{IsUnmoved, NotesLine}
+use Rattle.halo_cli.specs.Commands.{entry_of, CommandComes, Brings, IsDone}
 use Rattle.halo_cli.specs.World.{Outside, World, OnlyMoves}
 use Rattle.halo_cli.specs.Ends.{HasCause, Ends, LineEnds, IsFinished}
-use Rattle.halo_cli.specs.Answers.{ToldBring, LineBrings, NotesLine, ReadFailed, OutFailed, NoteFailed, Gives, GivesIfRead, GivesIfRun, IsDone, Answers}
-use Rattle.halo_cli.proofs.RewriteDue.{rewrite_never_exits}
-use Rattle.halo_cli.proofs.RunDue.{MayWrite, run_never_done}
-use Rattle.halo_cli.proofs.ShowDue.{show_never_exits}
-use Rattle.halo_cli.proofs.Due.{brings_due, started_due, brings_lacking, asks_once, first_wrong_is_no_line}
+use Rattle.halo_cli.specs.Answers.{ToldBring, LineBrings, ReadFailed, OutFailed, NoteFailed, Gives, GivesIfRead, GivesIfRun, Answers}
+use Rattle.halo_cli.proofs.CommandLaws.{MayWrite, Laws}
+use Rattle.halo_cli.proofs.RewriteDue.{TextsOnce}
+use Rattle.halo_cli.proofs.Due.{laws_of, unmoved_by}
 
 -- each status is that of one kind of ending
 
@@ -46,7 +44,8 @@ is_running : (ending : Ending) → status_of ending ≡ 70 → (steps : ℕ) × 
 is_running (StillRunning steps) is = (steps, refl)
 is_running ending is = absurd (omega arith)
 
-is_fault : (ending : Ending) → status_of ending ≡ 71 → (kind : FaultKind) × (at : ℕ) × (steps : ℕ) × (ending ≡ Fault kind at steps)
+is_fault : (ending : Ending) → status_of ending ≡ 71
+    → (kind : FaultKind) × (at : ℕ) × (steps : ℕ) × (ending ≡ Fault kind at steps)
 is_fault (Fault kind at steps) is = (kind, at, steps, refl)
 is_fault ending is = absurd (omega arith)
 
@@ -68,15 +67,17 @@ status_range (Fault kind at steps) = inr (lit≤ tt, lit≤ tt)
 status_range (Illegal at steps) = inr (lit≤ tt, lit≤ tt)
 
 unmoved : (before now : Outside) → now ≡ before → OnlyMoves before now
-unmoved before now same = subst (λ outside. OnlyMoves before outside) (sym same) (record {
-  files = record { told = refl; faults = omega arith; taken = omega arith };
-  input = record { tells = refl; faults = omega arith; taken = omega arith };
-  out = record { tells = refl; later = omega arith };
-})
+unmoved before now same = subst (λ outside. OnlyMoves before outside) (sym same) (unmoved_by before)
 
--- the table holds of a line that ended, and of the program after it
-module _ (words : List (List ℕ)) (before now : World) (ending : Ending) (status : ℕ)
-    (ends : LineEnds words before.outside now.outside ending) (finished : IsFinished ending before.note now.note status) where
+-- the table holds of a line that ended, and of the program after it, where words ask for one thing, words with a
+-- first wrong one are no line, and a plan's text and a file bring `rewrite` to one ending
+module _ (texts_once : TextsOnce)
+    (asks_once : (words : List (List ℕ)) (a b : Asked) → AsksFor the_table words a → AsksFor the_table words b → a ≡ b)
+    (first_wrong_is_no_line : (words : List (List ℕ)) (place : ℕ) → IsFirstWrong the_table words place
+    → IsLine the_table words → ⊥)
+    (words : List (List ℕ)) (before now : World) (ending : Ending) (status : ℕ)
+    (ends : LineEnds words before.outside now.outside ending)
+    (finished : IsFinished ending before.note now.note status) where
   -- the status is that of the ending, and note has its line; or note failed
   noted : ((status ≡ status_of ending) × NotesLine before now ending) ⊎ ((status ≡ 68) × NoteFailed before now)
   noted = ⊎_elim (λ by. inl by) (λ by. inr (by.1, by.2)) finished.noted
@@ -85,13 +86,19 @@ module _ (words : List (List ℕ)) (before now : World) (ending : Ending) (statu
   by_status : status ≢ 68 → (status ≡ status_of ending) × NotesLine before now ending
   by_status other = ⊎_elim (λ by. by) (λ by. absurd (other by.0)) noted
 
-  -- the line asks for a command, unless the ending says that it doesn't
-  asked_by : (ending : Ending) → LineEnds words before.outside now.outside ending → status_of ending ≢ 64
-      → (asked : Asked) × AsksFor words asked × Ends asked before.outside now.outside ending
-  asked_by ending (inl (place, is, wrong, same)) other = absurd (other (ap status_of is))
-  asked_by ending (inr command) other = command
+  laws : (asked : Asked) → Laws (entry_of asked)
+  laws asked = laws_of texts_once asked
 
-  usage_only : status ≡ 64 → (IsLine words → ⊥) × ((place : ℕ) × IsFirstWrong words place × NotesLine before now (Usage place))
+  -- the line came to a command, unless the ending says that it didn't
+  asked_by : (ending : Ending) → LineEnds words before.outside now.outside ending
+      → status_of ending ≢ 64 → status_of ending ≢ 69
+      → (asked : Asked) × AsksFor the_table words asked × Ends asked before.outside now.outside ending
+  asked_by ending (inl (place, is, wrong, same)) usage memory = absurd (usage (ap status_of is))
+  asked_by ending (inr (inl (is, line, same))) usage memory = absurd (memory (ap status_of is))
+  asked_by ending (inr (inr command)) usage memory = command
+
+  usage_only : status ≡ 64 → (IsLine the_table words → ⊥)
+      × ((place : ℕ) × IsFirstWrong the_table words place × NotesLine before now (Usage place))
   usage_only is = at ends
     where
       by : (status ≡ status_of ending) × NotesLine before now ending
@@ -100,66 +107,107 @@ module _ (words : List (List ℕ)) (before now : World) (ending : Ending) (statu
       usage : (place : ℕ) × (ending ≡ Usage place)
       usage = is_usage ending (sym by.0 ∙ is)
 
-      at : LineEnds words before.outside now.outside ending → (IsLine words → ⊥) × ((place : ℕ) × IsFirstWrong words place × NotesLine before now (Usage place))
+      at : LineEnds words before.outside now.outside ending
+          → (IsLine the_table words → ⊥)
+          × ((place : ℕ) × IsFirstWrong the_table words place × NotesLine before now (Usage place))
       at (inl (place, is_usage', wrong, same)) =
           (first_wrong_is_no_line words place wrong, (place, wrong, subst (λ e. NotesLine before now e) is_usage' by.1))
-      at (inr (asked, asks, command)) = absurd (subst (λ e. HasCause asked before.outside now.outside e) usage.1 command.cause)
+      at (inr (inl (is, line, same))) = absurd (let both : Usage usage.0 ≡ Memory = sym usage.1 ∙ is in cc)
+      at (inr (inr (asked, asks, command))) =
+          absurd (subst (λ e. HasCause asked before.outside now.outside e) usage.1 command.cause)
 
   -- where the words are no line the ending says so
-  no_line : (IsLine words → ⊥) → (place : ℕ) × (ending ≡ Usage place) × (now.outside ≡ before.outside)
-  no_line none = ⊎_elim (λ usage. (usage.0, usage.1, usage.3)) (λ command. absurd (none (command.0, command.1))) ends
+  no_line : (IsLine the_table words → ⊥) → (place : ℕ) × (ending ≡ Usage place) × (now.outside ≡ before.outside)
+  no_line none = at ends
+    where
+      at : LineEnds words before.outside now.outside ending
+          → (place : ℕ) × (ending ≡ Usage place) × (now.outside ≡ before.outside)
+      at (inl (place, is, wrong, same)) = (place, is, same)
+      at (inr (inl (is, line, same))) = absurd (none line)
+      at (inr (inr (asked, asks, command))) = absurd (none (asked, asks))
 
   gives : (want : ℕ) → status_of ending ≡ want → Gives want before now status
   gives want is = ⊎_elim (λ by. inl (by.0 ∙ is)) (λ by. inr (inr by)) noted
 
-  usage_always : (IsLine words → ⊥) → Gives 64 before now status
+  usage_always : (IsLine the_table words → ⊥) → Gives 64 before now status
   usage_always none = gives 64 (ap status_of (no_line none).1)
 
   -- what was read brings the line to an ending that was its own
-  brought : (want : Ending) → ending ≡ want → ((asked : Asked) → HasCause asked before.outside now.outside want → Brings asked before.outside now.outside want)
-      → status_of want ≢ 64 → LineBrings words before now want
-  brought want is own other =
-      let command = asked_by ending ends (λ e. other (sym (ap status_of is) ∙ e)) in
-      (command.0, command.1, own command.0 (subst (λ e. HasCause command.0 before.outside now.outside e) is command.2.cause))
+  brought : (want : Ending) → ending ≡ want
+      → ((asked : Asked) → HasCause asked before.outside now.outside want
+      → Brings asked before.outside now.outside want)
+      → status_of want ≢ 64 → status_of want ≢ 69 → LineBrings words before now want
+  brought want is own usage memory =
+      let command = asked_by ending ends (λ e. usage (sym (ap status_of is) ∙ e))
+      (λ e. memory (sym (ap status_of is) ∙ e)) in (
+        command.0,
+        command.1,
+        own command.0
+            (subst (λ e. HasCause command.0 before.outside now.outside e) is command.2.cause),
+      )
 
   file_only : status ≡ 65 → (why : BadFile) × LineBrings words before now (File why) × NotesLine before now (File why)
   file_only is =
       let by = by_status (λ e. omega arith) in
-      let found = is_file ending (sym by.0 ∙ is) in
-      (found.0, brought (File found.0) found.1 (λ asked cause. cause) (λ e. omega arith), subst (λ e. NotesLine before now e) found.1 by.1)
+      let found = is_file ending (sym by.0 ∙ is) in (
+        found.0,
+        brought (File found.0) found.1 (λ asked cause. cause) (λ e. omega arith) (λ e. omega arith),
+        subst (λ e. NotesLine before now e) found.1 by.1,
+      )
 
   plan_only : status ≡ 66 → (why : BadPlan) × LineBrings words before now (Plan why) × NotesLine before now (Plan why)
   plan_only is =
       let by = by_status (λ e. omega arith) in
-      let found = is_plan ending (sym by.0 ∙ is) in
-      (found.0, brought (Plan found.0) found.1 (λ asked cause. cause) (λ e. omega arith), subst (λ e. NotesLine before now e) found.1 by.1)
+      let found = is_plan ending (sym by.0 ∙ is) in (
+        found.0,
+        brought (Plan found.0) found.1 (λ asked cause. cause) (λ e. omega arith) (λ e. omega arith),
+        subst (λ e. NotesLine before now e) found.1 by.1,
+      )
 
-  running_only : status ≡ 70 → (steps : ℕ) × LineBrings words before now (StillRunning steps) × NotesLine before now (StillRunning steps)
+  running_only : status ≡ 70
+      → (steps : ℕ) × LineBrings words before now (StillRunning steps) × NotesLine before now (StillRunning steps)
   running_only is =
       let by = by_status (λ e. omega arith) in
-      let found = is_running ending (sym by.0 ∙ is) in
-      (found.0, brought (StillRunning found.0) found.1 (λ asked cause. cause) (λ e. omega arith), subst (λ e. NotesLine before now e) found.1 by.1)
+      let found = is_running ending (sym by.0 ∙ is) in (
+        found.0,
+        brought (StillRunning found.0) found.1 (λ asked cause. cause) (λ e. omega arith) (λ e. omega arith),
+        subst (λ e. NotesLine before now e) found.1 by.1,
+      )
 
   fault_only : status ≡ 71 → (kind : FaultKind) × (at : ℕ) × (steps : ℕ)
       × LineBrings words before now (Fault kind at steps) × NotesLine before now (Fault kind at steps)
   fault_only is =
       let by = by_status (λ e. omega arith) in
-      let found = is_fault ending (sym by.0 ∙ is) in
-      (found.0, found.1, found.2, brought (Fault found.0 found.1 found.2) found.3 (λ asked cause. cause) (λ e. omega arith), subst (λ e. NotesLine before now e) found.3 by.1)
+      let found = is_fault ending (sym by.0 ∙ is) in (
+        found.0,
+        found.1,
+        found.2,
+        brought (Fault found.0 found.1 found.2) found.3 (λ asked cause. cause) (λ e. omega arith) (λ e. omega arith),
+        subst (λ e. NotesLine before now e) found.3 by.1,
+      )
 
-  illegal_only : status ≡ 72 → (at : ℕ) × (steps : ℕ) × LineBrings words before now (Illegal at steps) × NotesLine before now (Illegal at steps)
+  illegal_only : status ≡ 72
+      → (at : ℕ) × (steps : ℕ) × LineBrings words before now (Illegal at steps)
+      × NotesLine before now (Illegal at steps)
   illegal_only is =
       let by = by_status (λ e. omega arith) in
-      let found = is_illegal ending (sym by.0 ∙ is) in
-      (found.0, found.1, brought (Illegal found.0 found.1) found.2 (λ asked cause. cause) (λ e. omega arith), subst (λ e. NotesLine before now e) found.2 by.1)
+      let found = is_illegal ending (sym by.0 ∙ is) in (
+        found.0,
+        found.1,
+        brought (Illegal found.0 found.1) found.2 (λ asked cause. cause) (λ e. omega arith)
+            (λ e. omega arith),
+        subst (λ e. NotesLine before now e) found.2 by.1,
+      )
 
   read_only : status ≡ 67 → ReadFailed words before now ⊎ ToldBring words before ReadFault
   read_only is =
       let by = by_status (λ e. omega arith) in
       let found : ending ≡ ReadFault = is_read_fault ending (sym by.0 ∙ is) in
-      let command = asked_by ending ends (λ e. omega (arith, ap status_of found, e)) in
+      let command = asked_by ending ends (λ e. omega (arith, ap status_of found, e))
+      (λ e. omega (arith, ap status_of found, e)) in
       ⊎_elim (λ failed. inl (command.0, command.1, failed))
-      (λ brings. (let lacks = brings_lacking command.0 before.outside now.outside brings in inr (lacks.0, lacks.1, (command.0, command.1, lacks.2))))
+      (λ brings. (let lacks = (laws command.0).lacking command.0.given before.outside now.outside brings in
+      inr (lacks.0, lacks.1, (command.0, command.1, lacks.2))))
       (subst (λ e. HasCause command.0 before.outside now.outside e) found command.2.cause)
 
   write_only : status ≡ 68 → OutFailed before now ⊎ NoteFailed before now
@@ -167,7 +215,8 @@ module _ (words : List (List ℕ)) (before now : World) (ending : Ending) (statu
     where
       out : ending ≡ WriteFault → OutFailed before now
       out found =
-          let command = asked_by ending ends (λ e. omega (arith, ap status_of found, e)) in
+          let command = asked_by ending ends (λ e. omega (arith, ap status_of found, e))
+          (λ e. omega (arith, ap status_of found, e)) in
           (subst (λ e. HasCause command.0 before.outside now.outside e) found command.2.cause).0
 
   -- the ending is the one that is due, or an excuse with its cause
@@ -175,50 +224,72 @@ module _ (words : List (List ℕ)) (before now : World) (ending : Ending) (statu
   Settles due ending = (ending ≡ due) ⊎ ((ending ≡ ReadFault) × ReadFailed words before now)
       ⊎ ((ending ≡ WriteFault) × OutFailed before now × MayWrite due) ⊎ (ending ≡ Memory)
 
-  brought_settles : (asked : Asked) (due ending : Ending) (contents : Contents) → before.outside.files.told ≡ Some contents
-      → CommandComes asked contents before.outside.input.told due → Brings asked before.outside now.outside ending → Settles due ending
-  brought_settles asked due ending contents told comes brings = inl (brings_due asked contents before.outside now.outside due ending told comes brings)
+  brought_settles : (asked : Asked) (due ending : Ending) (contents : Contents)
+      → before.outside.files.told ≡ Some contents
+      → CommandComes asked contents before.outside.input.told due → Brings asked before.outside now.outside ending
+      → Settles due ending
+  brought_settles asked due ending contents told comes brings =
+      inl ((laws asked).due asked.given contents before.outside now.outside due ending told comes brings)
 
-  cause_settles : (asked : Asked) → AsksFor words asked → (due ending : Ending) (contents : Contents) → before.outside.files.told ≡ Some contents
-      → CommandComes asked contents before.outside.input.told due → HasCause asked before.outside now.outside ending → Settles due ending
+  cause_settles : (asked : Asked) → AsksFor the_table words asked → (due ending : Ending) (contents : Contents)
+      → before.outside.files.told ≡ Some contents
+      → CommandComes asked contents before.outside.input.told due → HasCause asked before.outside now.outside ending
+      → Settles due ending
   cause_settles asked asks due Done contents told comes cause = brought_settles asked due Done contents told comes cause
-  cause_settles asked asks due (Exited s n) contents told comes cause = brought_settles asked due (Exited s n) contents told comes cause
+  cause_settles asked asks due (Exited s n) contents told comes cause =
+      brought_settles asked due (Exited s n) contents told comes cause
   cause_settles asked asks due (Usage place) contents told comes cause = absurd cause
-  cause_settles asked asks due (File why) contents told comes cause = brought_settles asked due (File why) contents told comes cause
-  cause_settles asked asks due (Plan why) contents told comes cause = brought_settles asked due (Plan why) contents told comes cause
+  cause_settles asked asks due (File why) contents told comes cause =
+      brought_settles asked due (File why) contents told comes cause
+  cause_settles asked asks due (Plan why) contents told comes cause =
+      brought_settles asked due (Plan why) contents told comes cause
   cause_settles asked asks due ReadFault contents told comes (inl failed) = inr (inl (refl, (asked, asks, failed)))
-  cause_settles asked asks due ReadFault contents told comes (inr brings) = brought_settles asked due ReadFault contents told comes brings
+  cause_settles asked asks due ReadFault contents told comes (inr brings) =
+      brought_settles asked due ReadFault contents told comes brings
   cause_settles asked asks due WriteFault contents told comes (rose, started) =
-      inr (inr (inl (refl, rose, started_due asked contents before.outside now.outside due told comes started)))
+      inr (inr (inl (
+        refl,
+        rose,
+        (laws asked).started asked.given contents before.outside now.outside due told comes started,
+      )))
   cause_settles asked asks due Memory contents told comes cause = inr (inr (inr refl))
-  cause_settles asked asks due (StillRunning n) contents told comes cause = brought_settles asked due (StillRunning n) contents told comes cause
-  cause_settles asked asks due (Fault k at n) contents told comes cause = brought_settles asked due (Fault k at n) contents told comes cause
-  cause_settles asked asks due (Illegal at n) contents told comes cause = brought_settles asked due (Illegal at n) contents told comes cause
+  cause_settles asked asks due (StillRunning n) contents told comes cause =
+      brought_settles asked due (StillRunning n) contents told comes cause
+  cause_settles asked asks due (Fault k at n) contents told comes cause =
+      brought_settles asked due (Fault k at n) contents told comes cause
+  cause_settles asked asks due (Illegal at n) contents told comes cause =
+      brought_settles asked due (Illegal at n) contents told comes cause
 
   settles : (due : Ending) → ToldBring words before due → Settles due ending
   settles due (contents, told, (asked, asks, comes)) = at ends
     where
       at : LineEnds words before.outside now.outside ending → Settles due ending
       at (inl (place, is, wrong, same)) = absurd (first_wrong_is_no_line words place wrong (asked, asks))
-      at (inr (asked', asks', command)) =
+      at (inr (inl (is, line, same))) = inr (inr (inr is))
+      at (inr (inr (asked', asks', command))) =
           let same : asked ≡ asked' = asks_once words asked asked' asks asks' in
-          cause_settles asked' asks' due ending contents told (subst (λ a. CommandComes a contents before.outside.input.told due) same comes) command.cause
+          cause_settles asked' asks' due ending contents told
+          (subst (λ a. CommandComes a contents before.outside.input.told due) same comes) command.cause
 
   memory_gives : (want : ℕ) → ending ≡ Memory → Gives want before now status
   memory_gives want is = ⊎_elim (λ by. inr (inl (by.0 ∙ ap status_of is))) (λ by. inr (inr by)) noted
 
   -- a refusal that is due
-  refusal_gives : (due : Ending) → (MayWrite due → ⊥) → Settles due ending → GivesIfRead words (status_of due) before now status
+  refusal_gives : (due : Ending) → (MayWrite due → ⊥) → Settles due ending
+      → GivesIfRead words (status_of due) before now status
   refusal_gives due never (inl is) = inr (gives (status_of due) (ap status_of is))
-  refusal_gives due never (inr (inl (is, failed))) = ⊎_elim (λ by. inl (by.0 ∙ ap status_of is, failed)) (λ by. inr (inr (inr by))) noted
+  refusal_gives due never (inr (inl (is, failed))) =
+      ⊎_elim (λ by. inl (by.0 ∙ ap status_of is, failed)) (λ by. inr (inr (inr by))) noted
   refusal_gives due never (inr (inr (inl (is, rose, may)))) = absurd (never may)
   refusal_gives due never (inr (inr (inr is))) = inr (memory_gives (status_of due) is)
 
   -- an end of a run that is due
   run_gives : (due : Ending) → Settles due ending → GivesIfRun words (status_of due) before now status
   run_gives due (inl is) = inr (inr (gives (status_of due) (ap status_of is)))
-  run_gives due (inr (inl (is, failed))) = ⊎_elim (λ by. inr (inl (by.0 ∙ ap status_of is, failed))) (λ by. inr (inr (inr (inr by)))) noted
-  run_gives due (inr (inr (inl (is, rose, may)))) = ⊎_elim (λ by. inl (by.0 ∙ ap status_of is, rose)) (λ by. inr (inr (inr (inr by)))) noted
+  run_gives due (inr (inl (is, failed))) =
+      ⊎_elim (λ by. inr (inl (by.0 ∙ ap status_of is, failed))) (λ by. inr (inr (inr (inr by)))) noted
+  run_gives due (inr (inr (inl (is, rose, may)))) =
+      ⊎_elim (λ by. inl (by.0 ∙ ap status_of is, rose)) (λ by. inr (inr (inr (inr by)))) noted
   run_gives due (inr (inr (inr is))) = inr (inr (memory_gives (status_of due) is))
 
   read_always : ToldBring words before ReadFault → Gives 67 before now status
@@ -231,7 +302,8 @@ module _ (words : List (List ℕ)) (before now : World) (ending : Ending) (statu
       at (inr (inr (inr is))) = memory_gives 67 is
 
   complete : (due : Ending) → status_of due ≡ 0 → ToldBring words before due
-      → (ReadFailed words before now → ⊥) → (OutFailed before now → ⊥) → (NoteFailed before now → ⊥) → (status ≡ 0) ⊎ (status ≡ 69)
+      → (ReadFailed words before now → ⊥) → (OutFailed before now → ⊥) → (NoteFailed before now → ⊥)
+      → (status ≡ 0) ⊎ (status ≡ 69)
   complete due zero told read out note = at (settles due told)
     where
       line : (status ≡ status_of ending)
@@ -243,69 +315,50 @@ module _ (words : List (List ℕ)) (before now : World) (ending : Ending) (statu
       at (inr (inr (inl (is, rose, may)))) = absurd (out rose)
       at (inr (inr (inr is))) = inr (line ∙ ap status_of is)
 
-  done_command : (asked : Asked) (ending : Ending) → status_of ending ≡ 0 → NotesLine before now ending → Ends asked before.outside now.outside ending
+  done_command : (asked : Asked) (ending : Ending) → status_of ending ≡ 0 → NotesLine before now ending
+      → Ends asked before.outside now.outside ending
       → IsFinished ending before.note now.note status → IsDone asked before now
-  done_command (Rewrite plan file) Done zero line command finished = (finished.quiet refl, command.leaves.input, command.leaves.done refl)
-  done_command (Rewrite plan file) (Exited s n) zero line command finished =
-      absurd (rewrite_never_exits plan file before.outside.files now.outside.files s n command.cause)
-  done_command (Run steps file) Done zero line command finished = absurd (run_never_done steps file before.outside now.outside command.cause)
-  done_command (Run steps file) (Exited s n) zero line command finished = (s, n, command.leaves.ran n refl, line)
-  done_command (Show file) Done zero line command finished = (finished.quiet refl, command.leaves.input, command.leaves.done refl)
-  done_command (Show file) (Exited s n) zero line command finished =
-      absurd (show_never_exits file before.outside.files now.outside.files s n command.cause)
+  done_command asked Done zero line command finished =
+      (laws asked).done asked.given before now Done zero line (λ is. finished.quiet refl) command.cause command.leaves
+  done_command asked (Exited s n) zero line command finished =
+      (laws asked).done asked.given before now (Exited s n) zero line (λ is. absurd (cc)) command.cause command.leaves
   done_command asked ending zero line command finished = absurd (omega arith)
 
-  done : status ≡ 0 → (asked : Asked) × AsksFor words asked × IsDone asked before now
+  done : status ≡ 0 → (asked : Asked) × AsksFor the_table words asked × IsDone asked before now
   done is =
       let by = by_status (λ e. omega arith) in
       let zero : status_of ending ≡ 0 = sym by.0 ∙ is in
-      let command = asked_by ending ends (λ e. omega (arith, zero, e)) in
+      let command = asked_by ending ends (λ e. omega (arith, zero, e)) (λ e. omega (arith, zero, e)) in
       (command.0, command.1, done_command command.0 ending zero by.1 command.2 finished)
-
-  not_written : (ending : Ending) → (status_of ending ≡ 65) ⊎ (status_of ending ≡ 66) ⊎ (status_of ending ≡ 69) → IsStop ending
-  not_written (File why) one = (λ e. cc, λ e. cc)
-  not_written (Plan why) one = (λ e. cc, λ e. cc)
-  not_written Memory one = (λ e. cc, λ e. cc)
-  not_written ending (inl is) = absurd (omega arith)
-  not_written ending (inr (inl is)) = absurd (omega arith)
-  not_written ending (inr (inr is)) = absurd (omega arith)
-
-  -- a refusal, and want of memory, leave input and out
-  left_alone : (asked : Asked) (ending : Ending) → (status_of ending ≡ 65) ⊎ (status_of ending ≡ 66) ⊎ (status_of ending ≡ 69)
-      → Leaves asked before.outside now.outside ending → IsUnmoved before.outside now.outside
-  left_alone (Rewrite plan file) ending one leaves = (leaves.input, leaves.silent (not_written ending one))
-  left_alone (Show file) ending one leaves = (leaves.input, leaves.silent (not_written ending one))
-  left_alone (Run bound file) (File why) one leaves = leaves.silent (λ n after. after, λ e. cc) (λ e. cc)
-  left_alone (Run bound file) (Plan why) one leaves = leaves.silent (λ n after. after, λ e. cc) (λ e. cc)
-  left_alone (Run bound file) Memory one leaves = leaves.silent (λ n after. after, λ e. cc) (λ e. cc)
-  left_alone asked ending (inl is) leaves = absurd (omega arith)
-  left_alone asked ending (inr (inl is)) leaves = absurd (omega arith)
-  left_alone asked ending (inr (inr is)) leaves = absurd (omega arith)
 
   silent : (status ≡ 65) ⊎ (status ≡ 66) ⊎ (status ≡ 69) → IsUnmoved before.outside now.outside
   silent one =
       let by = by_status (λ e. not_68 e one) in
-      let which : (status_of ending ≡ 65) ⊎ (status_of ending ≡ 66) ⊎ (status_of ending ≡ 69) = subst (λ s. (s ≡ 65) ⊎ (s ≡ 66) ⊎ (s ≡ 69)) by.0 one in
-      let command = asked_by ending ends (λ e. not_64 e which) in
-      left_alone command.0 ending which command.2.leaves
+      let which : (status_of ending ≡ 65) ⊎ (status_of ending ≡ 66) ⊎ (status_of ending ≡ 69) =
+      subst (λ s. (s ≡ 65) ⊎ (s ≡ 66) ⊎ (s ≡ 69)) by.0 one in
+      at which ends
     where
+      at : (status_of ending ≡ 65) ⊎ (status_of ending ≡ 66) ⊎ (status_of ending ≡ 69)
+          → LineEnds words before.outside now.outside ending → IsUnmoved before.outside now.outside
+      at which (inl (place, is, wrong, same)) = (ap (λ (o : Outside). o.input) same, ap (λ (o : Outside). o.out) same)
+      at which (inr (inl (is, line, same))) = (ap (λ (o : Outside). o.input) same, ap (λ (o : Outside). o.out) same)
+      at which (inr (inr (asked, asks, command))) =
+          (laws asked).silent asked.given before.outside now.outside ending which command.leaves
+
       not_68 : status ≡ 68 → (status ≡ 65) ⊎ (status ≡ 66) ⊎ (status ≡ 69) → ⊥
       not_68 e (inl is) = omega arith
       not_68 e (inr (inl is)) = omega arith
       not_68 e (inr (inr is)) = omega arith
 
-      not_64 : status_of ending ≡ 64 → (status_of ending ≡ 65) ⊎ (status_of ending ≡ 66) ⊎ (status_of ending ≡ 69) → ⊥
-      not_64 e (inl is) = omega arith
-      not_64 e (inr (inl is)) = omega arith
-      not_64 e (inr (inr is)) = omega arith
-
   moves : LineEnds words before.outside now.outside ending → OnlyMoves before.outside now.outside
   moves (inl (place, is, wrong, same)) = unmoved before.outside now.outside same
-  moves (inr (asked, asks, command)) = command.moves
+  moves (inr (inl (is, line, same))) = unmoved before.outside now.outside same
+  moves (inr (inr (asked, asks, command))) = command.moves
 
   statuses : (status ≡ 0) ⊎ ((64 ≤ status) × (status ≤ 72))
   statuses = ⊎_elim
-      (λ by. ⊎_elim (λ zero. inl (by.0 ∙ zero)) (λ range. inr (omega (arith, by.0, range.0), omega (arith, by.0, range.1))) (status_range ending))
+      (λ by. ⊎_elim (λ zero. inl (by.0 ∙ zero))
+      (λ range. inr (omega (arith, by.0, range.0), omega (arith, by.0, range.1))) (status_range ending))
       (λ by. inr (omega (arith, by.0), omega (arith, by.0))) noted
 
   pub line_answers : Answers words before now status
@@ -314,9 +367,11 @@ module _ (words : List (List ℕ)) (before now : World) (ending : Ending) (statu
     usage_always = usage_always;
     untouched = λ none. (no_line none).2;
     file_only = file_only;
-    file_always = λ why told. refusal_gives (File why) (λ may. ⊎_elim (λ e. omega (arith, e)) (λ e. omega (arith, e)) may) (settles (File why) told);
+    file_always = λ why told. refusal_gives (File why)
+        (λ may. ⊎_elim (λ e. omega (arith, e)) (λ e. omega (arith, e)) may) (settles (File why) told);
     plan_only = plan_only;
-    plan_always = λ why told. refusal_gives (Plan why) (λ may. ⊎_elim (λ e. omega (arith, e)) (λ e. omega (arith, e)) may) (settles (Plan why) told);
+    plan_always = λ why told. refusal_gives (Plan why)
+        (λ may. ⊎_elim (λ e. omega (arith, e)) (λ e. omega (arith, e)) may) (settles (Plan why) told);
     read_only = read_only;
     read_always = read_always;
     write_only = write_only;

@@ -4,9 +4,11 @@ use Rattle.halo_outside.specs.Seen.{SinkSeen, Rose, Appends, AppendsPrefix}
 use Rattle.halo_cli.specs.World.{Outside, OnlyMoves, OnlyWrites}
 use Rattle.endings.specs.declared.endings.Ending.{Ending}
 use Rattle.endings.specs.declared.endings.Ending.TheVariants.{Usage, ReadFault, WriteFault, Memory}
-use Rattle.halo_cli.specs.Words.{Asked, AsksFor, IsFirstWrong}
+use Rattle.halo_words.specs.Table.{the_table}
+use Rattle.halo_words.specs.Grammar.{Asked, AsksFor, IsLine, IsFirstWrong}
 use Rattle.endings.specs.Endings.{status_of, line_of}
-use Rattle.halo_cli.specs.Commands.{Brings, IsStarted, ReadFails, Leaves}
+use Rattle.halo_cli.specs.Commands.{reads_of, Brings, IsStarted, ReadFails, Leaves}
+use Rattle.halo_cli.specs.Reads.{AreFirstReads}
 
 -- the cause of an ending: what was read brings the command to it, or a count that rose
 abbrev pub HasCause : Asked → Outside → Outside → Ending → Type 0
@@ -16,17 +18,19 @@ HasCause asked before now WriteFault = Rose before.out.faults now.out.faults × 
 HasCause asked before now Memory = Unit {0}
 HasCause asked before now ending = Brings asked before now ending
 
--- how a command ends: the cause, and what it does to the outside
+-- how a command ends: the cause, what it does to the outside, and that it reads no other files than its words name
 pub record Ends (asked : Asked) (before now : Outside) (ending : Ending) : Type 0 where
   pub cause : HasCause asked before now ending
   pub leaves : Leaves asked before now ending
   pub moves : OnlyMoves before now
+  pub reads : AreFirstReads (reads_of asked) before.files now.files ending
 
--- how a line of words ends: it is none, or asks for a command that ends so
+-- how a line of words ends: it is none; or memory was wanting for its values; or it asks for a command that ends so
 abbrev pub LineEnds : List (List ℕ) → Outside → Outside → Ending → Type 0
 LineEnds words before now ending =
-    ((place : ℕ) × (ending ≡ Usage place) × IsFirstWrong words place × (now ≡ before))
-    ⊎ ((asked : Asked) × AsksFor words asked × Ends asked before now ending)
+    ((place : ℕ) × (ending ≡ Usage place) × IsFirstWrong the_table words place × (now ≡ before))
+    ⊎ ((ending ≡ Memory) × IsLine the_table words × (now ≡ before))
+    ⊎ ((asked : Asked) × AsksFor the_table words asked × Ends asked before now ending)
 
 -- the whole line of an ending was written, or note failed after a part of it
 abbrev pub IsNoted : Ending → SinkSeen → SinkSeen → ℕ → Type 0

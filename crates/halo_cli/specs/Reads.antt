@@ -1,5 +1,6 @@
--- The files that a command reads: their limits, the bytes that were read, and the cause of an ending.
-use Rattle.std.specs.Prelude.{◌≡◌, ℕ, ◌≤◌, ◌⊎◌, nat_lt, List, length, Option, None, Some}
+-- The files that a command reads: their limits, the bytes that were read, the reads that were done, and the cause of
+-- an ending.
+use Rattle.std.specs.Prelude.{◌≡◌, ℕ, ◌≤◌, ◌⊎◌, nat_lt, List, [], ◌∷◌, length, Option, None, Some}
 use Rattle.std.specs.Bool.{MatchBool}
 use Rattle.halo_outside.specs.Seen.{FilesSeen, count_after, Rose, IsToldAt, Lacks, IsTooLong}
 use Rattle.endings.specs.declared.endings.Ending.{Ending}
@@ -22,11 +23,48 @@ pub record IsRead (name : List ℕ) (limit : ℕ) (before now : FilesSeen) (byte
   pub within : length bytes ≤ limit
   pub counted : now.taken ≡ count_after before.taken (length bytes)
 
+-- a read of a file: its name, the most bytes that are taken of it, and the ending where it has more
+pub record FileRead : Type 0 where
+  pub name : List ℕ
+  pub limit : ℕ
+  pub long : Ending
+
+-- it gave the file's bytes
+pub record IsWhole (read : FileRead) (before now : FilesSeen) : Type 0 where
+  pub bytes : List ℕ
+  pub is_read : IsRead read.name read.limit before now bytes
+  pub told : now.told ≡ before.told
+  pub faults : before.faults ≤ now.faults
+
+-- it gave none
+pub record IsStopped (read : FileRead) (before now : FilesSeen) : Type 0 where
+  pub told : now.told ≡ before.told
+  pub faults : before.faults ≤ now.faults
+  pub taken : before.taken ≤ now.taken
+  -- a read of a missing file changes nothing
+  pub lacking : Lacks before.told read.name → now ≡ before
+
+-- the ending of a command whose read gave none: it failed, the file is too long, or memory was wanting
+abbrev pub StopsSo : FileRead → FilesSeen → FilesSeen → Ending → Type 0
+StopsSo read before now ending =
+    ((ending ≡ ReadFault) × (Rose before.faults now.faults ⊎ Lacks before.told read.name))
+    ⊎ ((ending ≡ read.long) × IsTooLong before.told read.name read.limit before.taken now.taken)
+    ⊎ ((ending ≡ Memory) × (now.faults ≡ before.faults))
+
+-- a command that ends so did the first of these reads, in their order: all of them gave their bytes, or all before
+-- the last one, which stopped the command, or memory was wanting before the next one
+abbrev pub AreFirstReads : List FileRead → FilesSeen → FilesSeen → Ending → Type 0
+AreFirstReads [] before now ending = now ≡ before
+AreFirstReads (read ∷ reads) before now ending = ((ending ≡ Memory) × (now ≡ before))
+    ⊎ (IsStopped read before now × StopsSo read before now ending)
+    ⊎ ((between : FilesSeen) × IsWhole read before between × AreFirstReads reads between now ending)
+
 -- to which ending told contents bring a command that reads one more file: it is lacking, is longer than its
 -- limit, or its bytes decide
 abbrev pub FileComes : ℕ → Option (List ℕ) → (List ℕ → Ending → Type 0) → Ending → Type 0
 FileComes limit None Decide ending = ending ≡ ReadFault
-FileComes limit (Some file) Decide ending = MatchBool (nat_lt limit (length file)) (ending ≡ File TooLong) (Decide file ending)
+FileComes limit (Some file) Decide ending =
+    MatchBool (nat_lt limit (length file)) (ending ≡ File TooLong) (Decide file ending)
 
 -- the ending of a command whose one file is lacking or longer than its limit
 abbrev pub IsNoFile : List ℕ → ℕ → FilesSeen → FilesSeen → Ending → Type 0

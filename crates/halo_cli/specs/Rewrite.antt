@@ -1,5 +1,5 @@
 -- `rewrite PLAN FILE`: to which ending the files bring it, and what it writes.
-use Rattle.std.specs.Prelude.{◌≡◌, ℕ, ◌⊎◌, nat_lt, List, length, Option, None, Some}
+use Rattle.std.specs.Prelude.{◌≡◌, ℕ, ◌⊎◌, nat_lt, List, [], ◌∷◌, length, Option, None, Some, codes}
 use Rattle.std.specs.Bool.{MatchBool}
 use Rattle.halo_outside.specs.Seen.{Contents, contents_of, FilesSeen, IsTooLong, Lacks}
 use Rattle.plan_core.specs.declared.types.Plan as types
@@ -13,7 +13,9 @@ use Rattle.endings.specs.declared.endings.Ending.{Ending}
 use Rattle.endings.specs.declared.endings.Ending.TheVariants.{Done, File, Plan, ReadFault, Memory}
 use Rattle.endings.specs.declared.endings.BadFile.TheVariants as bad_file
 use Rattle.endings.specs.declared.endings.BadPlan.TheVariants as bad_plan
-use Rattle.halo_cli.specs.Reads.{plan_limit, file_limit, FileComes, IsNoFile, IsRead}
+use Rattle.halo_words.specs.Grammar.{operand_in}
+use Rattle.halo_cli.specs.Reads.{plan_limit, file_limit, FileComes, FileRead, IsNoFile, IsRead}
+use Rattle.halo_cli.specs.Entry.{Entry, text_entry}
 
 -- the text is that of this plan, which has no more sites and rows than are taken
 abbrev pub IsTextOf : List ℕ → types.Plan → Type 0
@@ -38,7 +40,8 @@ TextComes text file ending = ((n : ℕ) × (ending ≡ Plan (bad_plan.Text (Line
 abbrev pub OperandsCome : Option (List ℕ) → Option (List ℕ) → Ending → Type 0
 OperandsCome None file ending = ending ≡ ReadFault
 OperandsCome (Some text) file ending =
-    MatchBool (nat_lt plan_limit (length text)) (ending ≡ Plan bad_plan.TooLong) (FileComes file_limit file (TextComes text) ending)
+    MatchBool (nat_lt plan_limit (length text)) (ending ≡ Plan bad_plan.TooLong)
+    (FileComes file_limit file (TextComes text) ending)
 
 -- to which ending told contents bring the command
 abbrev pub RewriteComes : List ℕ → List ℕ → Contents → Ending → Type 0
@@ -65,7 +68,8 @@ abbrev pub RewriteBrings : List ℕ → List ℕ → FilesSeen → FilesSeen →
 RewriteBrings plan_name file_name before now ending = IsNoPlan plan_name before now ending
     ⊎ ((between : FilesSeen) × (text : List ℕ)
     × IsPlanRead plan_name before between text × IsNoFile file_name file_limit between now ending)
-    ⊎ ((text : List ℕ) × (file : List ℕ) × AreRead plan_name file_name before now text file × TextComes text file ending)
+    ⊎ ((text : List ℕ) × (file : List ℕ)
+    × AreRead plan_name file_name before now text file × TextComes text file ending)
 
 -- the new file is the file, rewritten by the plan of the text
 abbrev pub Makes : List ℕ → List ℕ → List ℕ → Type 0
@@ -75,3 +79,17 @@ Makes text file new = (plan : types.Plan) × IsTextOf text plan × IsRewritten f
 abbrev pub RewriteWrites : List ℕ → List ℕ → FilesSeen → FilesSeen → List ℕ → Type 0
 RewriteWrites plan_name file_name before now new = (text : List ℕ) × (file : List ℕ)
     × AreRead plan_name file_name before now text file × Makes text file new
+
+-- the plan is read first
+abbrev pub rewrite_reads : List ℕ → List ℕ → List FileRead
+rewrite_reads plan_name file_name =
+    record { name = plan_name; limit = plan_limit; long = Plan bad_plan.TooLong }
+    ∷ record { name = file_name; limit = file_limit; long = File bad_file.TooLong } ∷ []
+
+-- the command, with the plan as its first operand and the file as its second
+abbrev pub rewrite_entry : Entry
+rewrite_entry = text_entry (codes "rewrite")
+    (λ given. rewrite_reads (operand_in given 0) (operand_in given 1))
+    (λ given. RewriteComes (operand_in given 0) (operand_in given 1))
+    (λ given. RewriteBrings (operand_in given 0) (operand_in given 1))
+    (λ given. RewriteWrites (operand_in given 0) (operand_in given 1))

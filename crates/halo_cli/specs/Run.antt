@@ -1,6 +1,6 @@
 -- `run [--steps N] FILE`: to which ending the file and the input bring it, and what it does to input
 -- and out.
-use Rattle.std.specs.Prelude.{◌≡◌, ◌≢◌, ℕ, ◌+◌, ◌<◌, ◌≤◌, ◌⊎◌, List, ◌++◌, Option, None, Some, MatchOption}
+use Rattle.std.specs.Prelude.{◌≡◌, ◌≢◌, ℕ, ◌+◌, ◌<◌, ◌≤◌, ◌⊎◌, List, [], ◌∷◌, ◌++◌, Option, None, Some, MatchOption, unwrap_or, codes}
 use Rattle.halo_outside.specs.Seen.{FilesSeen, Contents, contents_of, Rose, Appends, AppendsPrefix}
 use Rattle.elf_read.specs.Refusals.{refusal}
 use Rattle.machine_spec.specs.declared.Ending as machine_ending
@@ -10,10 +10,14 @@ use Rattle.flat_spec.specs.Runs.{flat_run}
 use Rattle.flat_machine.specs.Runs.{WroteLast}
 use Rattle.endings.specs.declared.endings.Ending.{Ending}
 use Rattle.endings.specs.declared.endings.Ending.TheVariants.{File, ReadFault, WriteFault, Exited, StillRunning, Fault, Illegal}
-use Rattle.endings.specs.declared.endings.BadFile.TheVariants.{Refused}
+use Rattle.endings.specs.declared.endings.BadFile.TheVariants.{Refused, TooLong}
 use Rattle.exec_image.specs.declared.refusals.FileRefusal.TheVariants.{Elf}
-use Rattle.halo_cli.specs.World.{Outside}
-use Rattle.halo_cli.specs.Reads.{run_limit, FileComes, IsRead, IsNoFile}
+use Rattle.text_fields.specs.Reading.{number_of}
+use Rattle.halo_words.specs.Grammar.{Given, option_in, operand_in}
+use Rattle.halo_cli.specs.World.{Outside, World}
+use Rattle.halo_cli.specs.Writing.{IsUnmoved, NotesLine}
+use Rattle.halo_cli.specs.Reads.{run_limit, FileComes, FileRead, IsRead, IsNoFile}
+use Rattle.halo_cli.specs.Entry.{Entry}
 
 -- the machine after so many turns of a file on an input: how it ended, if it did
 abbrev pub ending_at : List ℕ → List ℕ → ℕ → machine_ending.Ending
@@ -98,7 +102,8 @@ RanWhole file n before now = (given : List ℕ) → before.input.told ≡ Some g
 -- prefix of the output of these turns
 abbrev pub IsCutAtWrite : List ℕ → ℕ → Outside → Outside → Type 0
 IsCutAtWrite file bound before now = (given : List ℕ) → before.input.told ≡ Some given
-    → (n : ℕ) × (n ≤ bound) × (WroteLast (start file) given n ⊎ (n ≡ bound) ⊎ (ending_at file given n ≢ machine.Running))
+    → (n : ℕ) × (n ≤ bound)
+    × (WroteLast (start file) given n ⊎ (n ≡ bound) ⊎ (ending_at file given n ≢ machine.Running))
     × AppendsPrefix before.out.told now.out.told (flat_run file given n).output
     × (now.input.told ≡ Some (flat_run file given n).input)
 
@@ -108,12 +113,10 @@ abbrev pub IsCutAtRead : List ℕ → ℕ → Outside → Outside → Type 0
 IsCutAtRead file bound before now = (given : List ℕ) → before.input.told ≡ Some given
     → (n : ℕ) × (n < bound) × (ending_at file given n ≡ machine.Running)
     × (Appends before.out.told now.out.told (flat_run file given n).output
-    ⊎ (Rose before.out.faults now.out.faults × AppendsPrefix before.out.told now.out.told (flat_run file given n).output))
-    × ((bytes : List ℕ) × (rest : List ℕ) × ((flat_run file given n).input ≡ bytes ++ rest) × (now.input.told ≡ Some rest))
-
--- neither input nor out were touched
-abbrev pub IsUnmoved : Outside → Outside → Type 0
-IsUnmoved before now = (now.input ≡ before.input) × (now.out ≡ before.out)
+    ⊎ (Rose before.out.faults now.out.faults
+    × AppendsPrefix before.out.told now.out.told (flat_run file given n).output))
+    × ((bytes : List ℕ) × (rest : List ℕ)
+    × ((flat_run file given n).input ≡ bytes ++ rest) × (now.input.told ≡ Some rest))
 
 -- the file was read and ran to this ending, in n turns
 abbrev pub Ran : ℕ → List ℕ → Outside → Outside → Ending → ℕ → Type 0
@@ -128,3 +131,33 @@ pub record RunLeaves (steps : ℕ) (name : List ℕ) (before now : Outside) (end
   pub read_fault : ending ≡ ReadFault → IsUnmoved before now ⊎ ((file : List ℕ)
       × IsRead name run_limit before.files now.files file × (refusal file ≡ None) × IsCutAtRead file steps before now)
   pub silent : IsLoadEnding ending → ending ≢ ReadFault → IsUnmoved before now
+
+-- a read failed: of the file, or of the input of the program that runs
+abbrev pub RunFails : List ℕ → Outside → Outside → Type 0
+RunFails name before now = Rose before.files.faults now.files.faults
+    ⊎ (Rose before.input.faults now.input.faults × IsLoaded name before.files now.files)
+
+-- what stands after it is done: all that the program wrote up to its exit, and on note how it ended
+abbrev pub RunDone : ℕ → List ℕ → World → World → Type 0
+RunDone bound name before now = (exit : ℕ) × (steps : ℕ)
+    × Ran bound name before.outside now.outside (Exited exit steps) steps × NotesLine before now (Exited exit steps)
+
+abbrev pub run_reads : List ℕ → List FileRead
+run_reads name = record { name = name; limit = run_limit; long = File TooLong } ∷ []
+
+-- the number in the value of `--steps`
+abbrev pub steps_in : Given → ℕ
+steps_in given = unwrap_or (number_of 4294967295 (option_in given (codes "steps"))) 0
+
+-- the command, with the most steps as its option and the file as its operand
+abbrev pub run_entry : Entry
+run_entry = record {
+  word = codes "run";
+  reads = λ given. run_reads (operand_in given 0);
+  comes = λ given. RunComes (steps_in given) (operand_in given 0);
+  brings = λ given. RunBrings (steps_in given) (operand_in given 0);
+  leaves = λ given. RunLeaves (steps_in given) (operand_in given 0);
+  started = λ given before now. IsLoaded (operand_in given 0) before.files now.files;
+  fails = λ given. RunFails (operand_in given 0);
+  done = λ given. RunDone (steps_in given) (operand_in given 0);
+}

@@ -1,5 +1,5 @@
 -- `show FILE`: to which ending the file brings it, and what it writes.
-use Rattle.std.specs.Prelude.{◌≡◌, ℕ, ◌⊎◌, List, Option, None, Some}
+use Rattle.std.specs.Prelude.{◌≡◌, ℕ, ◌⊎◌, List, [], ◌∷◌, Option, None, Some, codes}
 use Rattle.halo_outside.specs.Seen.{Contents, contents_of, FilesSeen}
 use Rattle.exec_image.specs.declared.refusals.FileRefusal.{FileRefusal}
 use Rattle.exec_image.specs.Refusals.{file_refusal}
@@ -7,8 +7,10 @@ use Rattle.exec_image.specs.Images.{IsAccepted}
 use Rattle.image_summary.specs.Summary.{IsSummary}
 use Rattle.endings.specs.declared.endings.Ending.{Ending}
 use Rattle.endings.specs.declared.endings.Ending.TheVariants.{Done, File}
-use Rattle.endings.specs.declared.endings.BadFile.TheVariants.{Refused}
-use Rattle.halo_cli.specs.Reads.{file_limit, FileComes, IsRead, IsNoFile}
+use Rattle.endings.specs.declared.endings.BadFile.TheVariants.{Refused, TooLong}
+use Rattle.halo_words.specs.Grammar.{operand_in}
+use Rattle.halo_cli.specs.Reads.{file_limit, FileComes, FileRead, IsRead, IsNoFile}
+use Rattle.halo_cli.specs.Entry.{Entry, text_entry}
 
 -- the ending of a file, by the first check that it fails
 abbrev pub show_ending : Option FileRefusal → Ending
@@ -32,3 +34,14 @@ ShowBrings name before now ending = IsNoFile name file_limit before now ending
 abbrev pub ShowWrites : List ℕ → FilesSeen → FilesSeen → List ℕ → Type 0
 ShowWrites name before now text =
     (file : List ℕ) × IsRead name file_limit before now file × IsAccepted file × IsSummary file text
+
+abbrev pub show_reads : List ℕ → List FileRead
+show_reads name = record { name = name; limit = file_limit; long = File TooLong } ∷ []
+
+-- the command, with the file as its operand
+abbrev pub show_entry : Entry
+show_entry = text_entry (codes "show")
+    (λ given. show_reads (operand_in given 0))
+    (λ given. ShowComes (operand_in given 0))
+    (λ given. ShowBrings (operand_in given 0))
+    (λ given. ShowWrites (operand_in given 0))

@@ -13,6 +13,9 @@ pub record World : Type 0 where
   pub outside : Outside
   pub note : SinkSeen
 
+abbrev pub world : FilesSeen → SourceSeen → SinkSeen → SinkSeen → World
+world files input out note = record { outside = record { files = files; input = input; out = out }; note = note }
+
 -- reads of files change no told contents, and no count falls
 pub record OnlyReads (before now : FilesSeen) : Type 0 where
   pub told : now.told ≡ before.told

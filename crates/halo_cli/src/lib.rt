@@ -1,19 +1,21 @@
 //! The command line of the program: its words, its commands, its statuses and its notes.
 #![tactic(auto)]
 
-ghost use Rattle.halo_cli.specs.Words.{texts};
+ghost use Rattle.halo_words.specs.Grammar.{texts};
+ghost use Rattle.halo_cli.specs.World.{world};
 ghost use Rattle.halo_cli.specs.Answers.{Answers};
 
 mod headline;
+mod laws;
 mod limits;
 mod line;
 mod note;
 mod rewrite;
 mod run;
 mod show;
-mod words;
 
 use halo_outside::{Files, Sink, Source};
+use halo_words::{words_ask_for_one_thing, words_with_a_wrong_one_are_no_line};
 pub use headline::{new_files_are_taken_by_run, new_files_do_the_same};
 use std::alloc::Global;
 
@@ -21,8 +23,8 @@ use std::alloc::Global;
 /// which it ends.
 ///
 /// `rewrite PLAN FILE` writes the file, changed as the plan says, to `out`. It takes the files that
-/// `exec_image` accepts and the plans that fit them, but for code that isn't rewritten yet: heap
-/// functions and pair sites. The input isn't read.
+/// `exec_image` accepts and the plans that fit them, but for code that isn't rewritten yet, which is that
+/// of heap functions. The input isn't read.
 ///
 /// `run [--steps N] FILE` runs the file, as it is, on the flat machine, with the program's input from
 /// `input` and its output to `out`. N is from 0 to 4294967295, and 100000000 where it isn't given. All
@@ -31,21 +33,29 @@ use std::alloc::Global;
 ///
 /// `show FILE` writes the summary of a file that `exec_image` accepts to `out`. The input isn't read.
 ///
+/// Options stand before, between or behind the operands, each at most once, as `--steps N` or
+/// `--steps=N`. No operand and no value is empty or begins with `-`, and a number has no leading zero.
+///
 /// One line on `note` says how the command ended, unless `rewrite` or `show` is done. It is tried after a failed
 /// `out`, too.
 ///
-/// | Status | Line on note | Comes |
-/// |---|---|---|
-/// | 0 | none; of `run`, `exit S after N steps` | the command is done; the program exits with status S at step N |
-/// | 64 | `halo: usage: word K` | the words are no line; K is the place, from 0, of the first wrong word, or the number of words |
-/// | 65 | `halo: file: TEXT` | the file is longer than 33554432 bytes, isn't accepted, or isn't rewritten yet; of `run`, it is longer than 34603008 bytes or isn't readable |
-/// | 66 | `halo: plan: TEXT` | the plan's text is longer than 1048576 bytes or isn't in its grammar, or the plan doesn't fit the file |
-/// | 67 | `halo: read failed` | a file is missing or couldn't be read, or the input couldn't be read |
-/// | 68 | `halo: write failed` | `out` or `note` failed |
-/// | 69 | `halo: out of memory` | there was no memory |
-/// | 70 | `halo: still running after N steps` | the program runs longer |
-/// | 71 | `halo: fault KIND at ADDR after N steps` | the program meets an address fault: F1 an access, F3 a jump, F6 a fetch |
-/// | 72 | `halo: illegal at ADDR after N steps` | the program comes to a word that is no instruction to be run |
+/// The statuses, each with its line and when it comes:
+///
+/// - 0, no line, or of `run` `exit S after N steps`: the command is done; the program exits with status S at
+///   step N.
+/// - 64, `halo: usage: word K`: the words are no line. K is the place, from 0, of the first wrong word, or the
+///   number of words.
+/// - 65, `halo: file: TEXT`: the file is longer than 33554432 bytes, isn't accepted, or isn't rewritten yet; of
+///   `run`, it is longer than 34603008 bytes or isn't readable.
+/// - 66, `halo: plan: TEXT`: the plan's text is longer than 1048576 bytes or isn't in its grammar, or the plan
+///   doesn't fit the file.
+/// - 67, `halo: read failed`: a file is missing or couldn't be read, or the input couldn't be read.
+/// - 68, `halo: write failed`: `out` or `note` failed.
+/// - 69, `halo: out of memory`: there was no memory.
+/// - 70, `halo: still running after N steps`: the program runs longer.
+/// - 71, `halo: fault KIND at ADDR after N steps`: the program meets an address fault: F1 an access, F3 a jump,
+///   F6 a fetch.
+/// - 72, `halo: illegal at ADDR after N steps`: the program comes to a word that is no instruction to be run.
 pub fn halo<F: Files, I: Source, O: Sink, N: Sink>(
     alloc: Global,
     words: &[String],
@@ -55,10 +65,12 @@ pub fn halo<F: Files, I: Source, O: Sink, N: Sink>(
     note: &mut N,
 ) -> u8
     ensures { Answers (texts words.now)
-        (record { outside = record { files = F.seen files.old; input = I.seen input.old; out = O.seen out.old }; note = N.seen note.old })
-        (record { outside = record { files = F.seen files.new; input = I.seen input.new; out = O.seen out.new }; note = N.seen note.new })
-        result }
+        (world (F.seen files.old) (I.seen input.old) (O.seen out.old) (N.seen note.old))
+        (world (F.seen files.new) (I.seen input.new) (O.seen out.new) (N.seen note.new)) result }
 {
+    words_ask_for_one_thing();
+    words_with_a_wrong_one_are_no_line();
+    laws::texts_and_files_come_to_one_ending();
     let ending = line::run_line(alloc, words, files, input, out);
     note::finish(note, ending)
 }

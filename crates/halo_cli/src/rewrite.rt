@@ -1,11 +1,11 @@
 // `rewrite PLAN FILE`: reads the plan and the file, makes the new file and writes it.
-ghost use Rattle.std.specs.Prelude.{◌≡◌, ◌≤◌, ◌⊎◌, length, IfOk, IfErr};
+ghost use Rattle.std.specs.Prelude.{◌≡◌, ◌≤◌, ◌⊎◌, length, codes, IfOk, IfErr};
 ghost use Rattle.halo_outside.specs.Seen.{FilesSeen, SourceSeen, SinkSeen};
 ghost use Rattle.rewriter.specs.Rewrites.{rewrite_refusal};
 ghost use Rattle.endings.specs.declared.endings.Ending.TheVariants.{Done};
-ghost use Rattle.halo_cli.specs.Words.Asked.{Rewrite};
-ghost use Rattle.halo_cli.specs.Reads.{HasReadCause};
-ghost use Rattle.halo_cli.specs.Rewrite.{AreRead, Makes, RewriteBrings, RewriteWrites, TextComes, rewrite_ending};
+ghost use Rattle.halo_words.specs.Grammar.{Given, operand_in};
+ghost use Rattle.halo_cli.specs.Reads.{AreFirstReads, HasReadCause};
+ghost use Rattle.halo_cli.specs.Rewrite.{AreRead, Makes, RewriteBrings, RewriteWrites, TextComes, rewrite_ending, rewrite_reads};
 ghost use Rattle.halo_cli.specs.Writing.{IsStop};
 ghost use Rattle.halo_cli.specs.World.{OnlyReads};
 ghost use Rattle.halo_cli.specs.Ends.{Ends};
@@ -13,19 +13,37 @@ ghost use Rattle.halo_cli.specs.Ends.{Ends};
 use crate::limits::{FILE_LIMIT, PLAN_LIMIT};
 use endings::{BadFile, BadPlan, Ending};
 use halo_outside::{Failed, FileFault, Files, Sink, write_all};
+use halo_words::Values;
 use plan_core::{PlanRefusal, read_plan};
 use rewriter::{RewriteRefusal, rewrite};
 use std::alloc::Global;
 
-/// Writes the new file of the file under the plan to `out`. The plan is read first. No input is read.
+/// Writes the new file of the second operand, a file, under the first, a plan, to `out`. The plan is read
+/// first. No input is read.
 pub fn rewrite_file<F: Files, O: Sink>(
+    alloc: Global,
+    values: &Values<'_>,
+    files: &mut F,
+    out: &mut O,
+) -> Ending
+    ensures { (input : SourceSeen) → Ends (record { word = codes "rewrite"; given = values.now.given })
+        (record { files = F.seen files.old; input = input; out = O.seen out.old })
+        (record { files = F.seen files.new; input = input; out = O.seen out.new }) result }
+{
+    write_new_file(alloc, values.operand(0), values.operand(1), files, out)
+}
+
+// Writes the new file of the file of the second name under the plan of the first.
+fn write_new_file<F: Files, O: Sink>(
     alloc: Global,
     plan_name: &str,
     file_name: &str,
     files: &mut F,
     out: &mut O,
 ) -> Ending
-    ensures { (input : SourceSeen) → Ends (Rewrite plan_name.now file_name.now)
+    ensures { (given : Given) (input : SourceSeen)
+        → operand_in given 0 ≡ plan_name.now → operand_in given 1 ≡ file_name.now
+        → Ends (record { word = codes "rewrite"; given = given })
         (record { files = F.seen files.old; input = input; out = O.seen out.old })
         (record { files = F.seen files.new; input = input; out = O.seen out.new }) result }
 {
@@ -46,6 +64,10 @@ fn make_new_file<F: Files>(
     files: &mut F,
 ) -> Result<Vec<u8>, Ending>
     ensures reads { OnlyReads (F.seen files.old) (F.seen files.new) }
+    ensures whole { IfOk result (λ new. (ending : Ending)
+        → AreFirstReads (rewrite_reads plan_name.now file_name.now) (F.seen files.old) (F.seen files.new) ending) }
+    ensures first { IfErr result (AreFirstReads (rewrite_reads plan_name.now file_name.now)
+        (F.seen files.old) (F.seen files.new)) }
     ensures fits { IfOk result (λ new.
         RewriteBrings plan_name.now file_name.now (F.seen files.old) (F.seen files.new) Done) }
     ensures made { IfOk result (λ new.

@@ -1,13 +1,12 @@
 // `run [--steps N] FILE`: reads the file and runs it on the flat machine.
 
-ghost use Rattle.std.specs.Prelude.{◌≡◌, [], List, ℕ, None, IfOk, IfErr};
+ghost use Rattle.std.specs.Prelude.{◌≡◌, [], List, ℕ, None, codes, IfOk, IfErr};
 ghost use Rattle.halo_outside.specs.Seen.{FilesSeen, SourceSeen, SinkSeen};
 ghost use Rattle.elf_read.specs.Refusals.{refusal};
 ghost use Rattle.flat_spec.specs.Machine.{start};
 ghost use Rattle.flat_machine.specs.Seen.{between};
-ghost use Rattle.halo_cli.specs.Words.Asked.{Run};
-ghost use Rattle.halo_cli.specs.Reads.{HasReadCause, IsRead, run_limit};
-ghost use Rattle.halo_cli.specs.Run.{LoadBrings, IsLoadEnding};
+ghost use Rattle.halo_cli.specs.Reads.{AreFirstReads, HasReadCause, IsRead, run_limit};
+ghost use Rattle.halo_cli.specs.Run.{LoadBrings, IsLoadEnding, run_reads, steps_in};
 ghost use Rattle.halo_cli.specs.RunEnds.{ending_of_run};
 ghost use Rattle.halo_cli.specs.World.{OnlyReads};
 ghost use Rattle.halo_cli.specs.Ends.{Ends};
@@ -19,23 +18,25 @@ use exec_image::FileRefusal;
 use flat_machine::{Flat, RunEnd, run_flat, start};
 use flat_mem::load;
 use halo_outside::{FileFault, Files, Sink, Source};
+use halo_words::Values;
 use std::alloc::Global;
+use text_fields::number;
 
-/// Runs the file for at most so many steps, with this input and output. All memory is taken before
+/// Runs the operand, a file, for at most the steps of `--steps`, with this input and output. All memory is taken before
 /// the machine starts.
 pub fn run_file<F: Files, I: Source, O: Sink>(
     alloc: Global,
-    steps: u32,
-    name: &str,
+    values: &Values<'_>,
     files: &mut F,
     input: &mut I,
     out: &mut O,
 ) -> Ending
-    ensures { Ends (Run steps name.now)
+    ensures { Ends (record { word = codes "run"; given = values.now.given })
         (record { files = F.seen files.old; input = I.seen input.old; out = O.seen out.old })
         (record { files = F.seen files.new; input = I.seen input.new; out = O.seen out.new }) result }
 {
-    match load_machine(alloc, name, files) {
+    let steps = steps_of(values);
+    match load_machine(alloc, values.operand(0), files) {
         Err(ending) => ending,
         Ok(machine) => {
             let mut machine = machine;
@@ -44,9 +45,22 @@ pub fn run_file<F: Files, I: Source, O: Sink>(
     }
 }
 
+// The number in the value of `--steps`.
+fn steps_of(values: &Values<'_>) -> u32
+    ensures { result ≡ steps_in values.now.given }
+{
+    match number(values.option("steps").as_bytes(), 4_294_967_295) {
+        Some(steps) => steps as u32,
+        None => 0,
+    }
+}
+
 // The machine that is about to run the file, or how the command ends without one.
 fn load_machine<F: Files>(alloc: Global, name: &str, files: &mut F) -> Result<Flat, Ending>
     ensures reads { OnlyReads (F.seen files.old) (F.seen files.new) }
+    ensures whole { IfOk result (λ machine. (ending : Ending)
+        → AreFirstReads (run_reads name.now) (F.seen files.old) (F.seen files.new) ending) }
+    ensures first { IfErr result (AreFirstReads (run_reads name.now) (F.seen files.old) (F.seen files.new)) }
     ensures loaded { IfOk result (λ machine. (file : List ℕ)
         × IsRead name.now run_limit (F.seen files.old) (F.seen files.new) file
         × (refusal file ≡ None) × (machine ≡ between (start file) [])) }

@@ -1,12 +1,12 @@
 // `show FILE`: reads the file, accepts it and writes its summary.
-ghost use Rattle.std.specs.Prelude.{◌≡◌, ◌⊎◌, ◌<◌, ◌^◌, length, IfOk, IfErr};
+ghost use Rattle.std.specs.Prelude.{◌≡◌, ◌⊎◌, ◌<◌, ◌^◌, length, codes, IfOk, IfErr};
 ghost use Rattle.halo_outside.specs.Seen.{FilesSeen, SourceSeen, SinkSeen};
 ghost use Rattle.exec_image.specs.Images.{IsAccepted};
 ghost use Rattle.image_summary.specs.Summary.{IsSummary};
 ghost use Rattle.endings.specs.declared.endings.Ending.TheVariants.{Done};
-ghost use Rattle.halo_cli.specs.Words.Asked.{Show};
-ghost use Rattle.halo_cli.specs.Reads.{HasReadCause};
-ghost use Rattle.halo_cli.specs.Show.{ChecksCome, ShowBrings, ShowWrites};
+ghost use Rattle.halo_words.specs.Grammar.{Given, operand_in};
+ghost use Rattle.halo_cli.specs.Reads.{AreFirstReads, HasReadCause};
+ghost use Rattle.halo_cli.specs.Show.{ChecksCome, ShowBrings, ShowWrites, show_reads};
 ghost use Rattle.halo_cli.specs.Writing.{IsStop};
 ghost use Rattle.halo_cli.specs.World.{OnlyReads};
 ghost use Rattle.halo_cli.specs.Ends.{Ends};
@@ -15,12 +15,28 @@ use crate::limits::FILE_LIMIT;
 use endings::{BadFile, Ending};
 use exec_image::{FileRefusal, accept};
 use halo_outside::{Failed, FileFault, Files, Sink, write_all};
+use halo_words::Values;
 use image_summary::summary;
 use std::alloc::Global;
 
-/// Writes the summary of the file to `out`. No input is read.
-pub fn show_file<F: Files, O: Sink>(alloc: Global, name: &str, files: &mut F, out: &mut O) -> Ending
-    ensures { (input : SourceSeen) → Ends (Show name.now)
+/// Writes the summary of the operand, a file, to `out`. No input is read.
+pub fn show_file<F: Files, O: Sink>(
+    alloc: Global,
+    values: &Values<'_>,
+    files: &mut F,
+    out: &mut O,
+) -> Ending
+    ensures { (input : SourceSeen) → Ends (record { word = codes "show"; given = values.now.given })
+        (record { files = F.seen files.old; input = input; out = O.seen out.old })
+        (record { files = F.seen files.new; input = input; out = O.seen out.new }) result }
+{
+    write_summary(alloc, values.operand(0), files, out)
+}
+
+// Writes the summary of the file of this name.
+fn write_summary<F: Files, O: Sink>(alloc: Global, name: &str, files: &mut F, out: &mut O) -> Ending
+    ensures { (given : Given) (input : SourceSeen) → operand_in given 0 ≡ name.now
+        → Ends (record { word = codes "show"; given = given })
         (record { files = F.seen files.old; input = input; out = O.seen out.old })
         (record { files = F.seen files.new; input = input; out = O.seen out.new }) result }
 {
@@ -36,6 +52,9 @@ pub fn show_file<F: Files, O: Sink>(alloc: Global, name: &str, files: &mut F, ou
 // The summary, or how the command ends without one.
 fn make_summary<F: Files>(alloc: Global, name: &str, files: &mut F) -> Result<Vec<u8>, Ending>
     ensures reads { OnlyReads (F.seen files.old) (F.seen files.new) }
+    ensures whole { IfOk result (λ text. (ending : Ending)
+        → AreFirstReads (show_reads name.now) (F.seen files.old) (F.seen files.new) ending) }
+    ensures first { IfErr result (AreFirstReads (show_reads name.now) (F.seen files.old) (F.seen files.new)) }
     ensures fits { IfOk result (λ text. ShowBrings name.now (F.seen files.old) (F.seen files.new) Done) }
     ensures made { IfOk result (λ text.
         ShowWrites name.now (F.seen files.old) (F.seen files.new) text.items) }

@@ -11,3 +11,4 @@ pub mod ClapIds
 pub mod ClapItems
 pub mod ClapLines
 pub mod Parsed
+pub mod Fits

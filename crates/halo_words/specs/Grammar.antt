@@ -114,7 +114,8 @@ IsLine table words = (asked : Asked) × AsksFor table words asked
 abbrev pub BeginsLine : List Shape → List (List ℕ) → Type 0
 BeginsLine table words = (more : List (List ℕ)) × IsLine table (words ++ more)
 
--- place `k`, from 0, has the first word that no line has there; or `k` is the number of words, and more would have to follow
+-- place `k`, from 0, has the first word that no line has there; or `k` is the number of words, and more would have to
+-- follow
 pub record IsFirstWrong (table : List Shape) (words : List (List ℕ)) (k : ℕ) : Type 0 where
   pub before : BeginsLine table (take k words)
   pub wrong : (BeginsLine table (take (k + 1) words) → ⊥) ⊎ ((k ≡ length words) × (IsLine table words → ⊥))

@@ -8,5 +8,7 @@ mod reading;
 mod values;
 
 pub use forms::{Form, Kind, Operand, Setting, all_forms};
-pub use laws::{words_ask_for_one_thing, words_with_a_wrong_one_are_no_line};
+pub use laws::{
+    what_a_line_gives_fits, words_ask_for_one_thing, words_with_a_wrong_one_are_no_line,
+};
 pub use values::{Stop, Values, read_words};

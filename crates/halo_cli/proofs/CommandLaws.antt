@@ -1,0 +1,83 @@
+-- What holds of every command: it comes to one ending, and does what the table of statuses says.
+use Rattle.std.proofs.Common.{◌≡◌, ◌≤◌, ◌⊎◌, inl, inr, ℕ, List, Some, refl, sym, ap, arith}
+use Rattle.halo_outside.specs.Seen.{Contents, FilesSeen}
+use Rattle.endings.specs.declared.endings.Ending.{Ending}
+use Rattle.endings.specs.declared.endings.Ending.TheVariants.{Done, File, Plan, ReadFault, Memory, Exited}
+use Rattle.endings.specs.Endings.{status_of}
+use Rattle.halo_words.specs.Grammar.{Given}
+use Rattle.halo_cli.specs.World.{Outside, World}
+use Rattle.halo_cli.specs.Reads.{FileRead}
+use Rattle.halo_cli.specs.Writing.{IsStop, IsUnmoved, NotesLine, WritesOnce, IsWritten}
+use Rattle.halo_cli.specs.Entry.{Entry, text_entry}
+
+-- an ending at which something may have been written
+abbrev pub MayWrite : Ending → Type 0
+MayWrite ending = (status_of ending ≡ 0) ⊎ (70 ≤ status_of ending)
+
+-- the statuses at which input and out are as before
+abbrev pub IsSilent : Ending → Type 0
+IsSilent ending = (status_of ending ≡ 65) ⊎ (status_of ending ≡ 66) ⊎ (status_of ending ≡ 69)
+
+pub record Laws (entry : Entry) : Type 0 where
+  -- what was read of what is told brings it to the ending to which that brings it
+  pub due : (given : Given) (contents : Contents) (before now : Outside) (due brought : Ending)
+      → before.files.told ≡ Some contents
+      → entry.comes given contents before.input.told due → entry.brings given before now brought → brought ≡ due
+  -- where it is started, what is told brings it to no refusal
+  pub started : (given : Given) (contents : Contents) (before now : Outside) (due : Ending)
+      → before.files.told ≡ Some contents
+      → entry.comes given contents before.input.told due → entry.started given before now → MayWrite due
+  -- only told files lack one that is due to be read
+  pub lacking : (given : Given) (before now : Outside) → entry.brings given before now ReadFault
+      → (contents : Contents) × (before.files.told ≡ Some contents)
+      × entry.comes given contents before.input.told ReadFault
+  -- at status 0 it is done
+  pub done : (given : Given) (before now : World) (ending : Ending) → status_of ending ≡ 0 → NotesLine before now ending
+      → (ending ≡ Done → now.note ≡ before.note) → entry.brings given before.outside now.outside ending
+      → entry.leaves given before.outside now.outside ending → entry.done given before now
+  -- a refusal, and want of memory, leave input and out
+  pub silent : (given : Given) (before now : Outside) (ending : Ending) → IsSilent ending
+      → entry.leaves given before now ending → IsUnmoved before now
+
+not_written : (ending : Ending) → IsSilent ending → IsStop ending
+not_written (File why) one = (λ e. cc, λ e. cc)
+not_written (Plan why) one = (λ e. cc, λ e. cc)
+not_written Memory one = (λ e. cc, λ e. cc)
+not_written ending (inl is) = absurd (omega arith)
+not_written ending (inr (inl is)) = absurd (omega arith)
+not_written ending (inr (inr is)) = absurd (omega arith)
+
+-- a command that writes one text
+module _ (word : List ℕ) (reads : Given → List FileRead) (Comes : Given → Contents → Ending → Type 0)
+    (Brings : Given → FilesSeen → FilesSeen → Ending → Type 0)
+    (Writes : Given → FilesSeen → FilesSeen → List ℕ → Type 0)
+    (once : (given : Given) (contents : Contents) (a b : Ending) → Comes given contents a → Comes given contents b
+    → a ≡ b)
+    (told : (given : Given) (contents : Contents) (before now : FilesSeen) (ending : Ending)
+    → before.told ≡ Some contents → Brings given before now ending → Comes given contents ending)
+    (lacks : (given : Given) (before now : FilesSeen) → Brings given before now ReadFault
+    → (contents : Contents) × (before.told ≡ Some contents) × Comes given contents ReadFault)
+    (exits : (given : Given) (before now : FilesSeen) (exit steps : ℕ) → Brings given before now (Exited exit steps)
+    → ⊥) where
+  text_done : (given : Given) (before now : World) (ending : Ending) → status_of ending ≡ 0
+      → (ending ≡ Done → now.note ≡ before.note)
+      → Brings given before.outside.files now.outside.files ending
+      → WritesOnce (Writes given before.outside.files now.outside.files) before.outside now.outside ending
+      → IsWritten (Writes given before.outside.files now.outside.files) before now
+  text_done given before now Done success quiet brings leaves = (quiet refl, leaves.input, leaves.done refl)
+  text_done given before now (Exited s n) success quiet brings leaves =
+      absurd (exits given before.outside.files now.outside.files s n brings)
+  text_done given before now ending success quiet brings leaves = absurd (omega arith)
+
+  pub text_laws : Laws (text_entry word reads Comes Brings Writes)
+  text_laws = record {
+    due = λ given contents before now due brought is comes brings.
+        once given contents brought due (told given contents before.files now.files brought is brings) comes;
+    started = λ given contents before now due is comes started.
+        inl (ap status_of (sym (once given contents Done due
+        (told given contents before.files now.files Done is started) comes)));
+    lacking = λ given before now brings. lacks given before.files now.files brings;
+    done = λ given before now ending success line quiet brings leaves.
+        text_done given before now ending success quiet brings leaves;
+    silent = λ given before now ending one leaves. (leaves.input, leaves.silent (not_written ending one));
+  }

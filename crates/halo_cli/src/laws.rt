@@ -1,0 +1,13 @@
+// Laws of what commands come to, each an empty function whose contract is proved.
+ghost use Rattle.std.specs.Prelude.{◌≡◌, ℕ, List};
+ghost use Rattle.endings.specs.declared.endings.Ending.{Ending};
+ghost use Rattle.halo_cli.specs.Rewrite.{TextComes};
+
+use plan_core::a_text_has_one_answer;
+
+/// A plan's text and a file bring `rewrite` to one ending.
+pub(crate) fn texts_and_files_come_to_one_ending()
+    ensures { (text file : List ℕ) (a b : Ending) → TextComes text file a → TextComes text file b → a ≡ b }
+{
+    a_text_has_one_answer();
+}
