@@ -12,13 +12,16 @@ reach_at : (t : Bool) (distance : ℕ) (x : Entry) (xs : List Entry) (e : Entry)
     → in_reach distance (cond t (x ∷ xs) (in_reach distance xs) ++ (e ∷ [])) ≡ in_reach distance (x ∷ xs ++ (e ∷ []))
 reach_at true distance x xs e is later = refl
 reach_at false distance x xs e is later =
-    let high : distance < span (x ∷ (xs ++ (e ∷ []))) = omega (arith, far_from (span (x ∷ xs)) distance is, span_push (x ∷ xs) e) in
+    let high : distance < span (x ∷ (xs ++ (e ∷ []))) =
+    omega (arith, far_from (span (x ∷ xs)) distance is, span_push (x ∷ xs) e) in
     later ∙ sym (far distance x (xs ++ (e ∷ [])) high)
 
 -- entries that were too far stay so
-pub reach_push : (distance : ℕ) (es : List Entry) (e : Entry) → in_reach distance (in_reach distance es ++ (e ∷ [])) ≡ in_reach distance (es ++ (e ∷ []))
+pub reach_push : (distance : ℕ) (es : List Entry) (e : Entry)
+    → in_reach distance (in_reach distance es ++ (e ∷ [])) ≡ in_reach distance (es ++ (e ∷ []))
 reach_push distance [] e = refl
-reach_push distance (x ∷ xs) e = reach_at (nat_le (span (x ∷ xs)) distance) distance x xs e refl (reach_push distance xs e)
+reach_push distance (x ∷ xs) e = reach_at (nat_le (span (x ∷ xs)) distance) distance x xs e refl
+    (reach_push distance xs e)
 
 back_at : (t : Bool) (distance : ℕ) (x : Entry) (xs front : List Entry) → xs ≡ front ++ in_reach distance xs
     → (before : List Entry) × (x ∷ xs ≡ before ++ cond t (x ∷ xs) (in_reach distance xs))
@@ -39,7 +42,8 @@ some_at true distance x xs e later = (x ∷ xs, refl)
 some_at false distance x xs e later = later
 
 -- the last entry is in reach
-pub reach_last : (distance : ℕ) (es : List Entry) (e : Entry) → (middle : List Entry) × (in_reach distance (es ++ (e ∷ [])) ≡ middle ++ (e ∷ []))
+pub reach_last : (distance : ℕ) (es : List Entry) (e : Entry)
+    → (middle : List Entry) × (in_reach distance (es ++ (e ∷ [])) ≡ middle ++ (e ∷ []))
 reach_last distance [] e = ([], near distance (e ∷ []) (omega arith))
 reach_last distance (x ∷ xs) e =
     some_at (nat_le (span (x ∷ (xs ++ (e ∷ [])))) distance) distance x xs e (reach_last distance xs e)
@@ -49,4 +53,8 @@ pub few : (es : List Entry) → All (λ e. 1 ≤ e.width) es → length es ≤ s
 few [] wide = omega arith
 few (e ∷ []) wide = omega arith
 few (e ∷ f ∷ es) wide =
-    omega (arith, few (f ∷ es) (All-tail (λ x. 1 ≤ x.width) e (f ∷ es) wide), All-head (λ x. 1 ≤ x.width) e (f ∷ es) wide)
+    omega (
+      arith,
+      few (f ∷ es) (All-tail (λ x. 1 ≤ x.width) e (f ∷ es) wide),
+      All-head (λ x. 1 ≤ x.width) e (f ∷ es) wide,
+    )

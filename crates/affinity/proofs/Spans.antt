@@ -11,7 +11,8 @@ span_step e [] some = absurd (omega arith)
 span_step e (f ∷ es) some = refl
 
 -- an entry that is too far is left out
-pub far : (distance : ℕ) (e : Entry) (es : List Entry) → distance < span (e ∷ es) → in_reach distance (e ∷ es) ≡ in_reach distance es
+pub far : (distance : ℕ) (e : Entry) (es : List Entry) → distance < span (e ∷ es)
+    → in_reach distance (e ∷ es) ≡ in_reach distance es
 far distance e es h = rw (is_far (span (e ∷ es)) distance h) refl
 
 -- entries that are near enough all stay
@@ -23,7 +24,8 @@ near distance (e ∷ es) h = rw (is_near (span (e ∷ es)) distance h) refl
 pub span-in_reach : (distance : ℕ) (es : List Entry) → span (in_reach distance es) ≤ distance
 span-in_reach distance [] = omega arith
 span-in_reach distance (e ∷ es) =
-    elim (nat_le (span (e ∷ es)) distance) as (λ t. nat_le (span (e ∷ es)) distance ≡ t → span (cond t (e ∷ es) (in_reach distance es)) ≤ distance) [
+    elim (nat_le (span (e ∷ es)) distance) as (λ t. nat_le (span (e ∷ es)) distance ≡ t
+    → span (cond t (e ∷ es) (in_reach distance es)) ≤ distance) [
       | true ↦ λ is. near_from (span (e ∷ es)) distance is
       | false ↦ λ is. span-in_reach distance es
     ] refl

@@ -32,7 +32,8 @@ abbrev pub NodesOf : List ℕ → List Entry → List Node → Type 0
 NodesOf cs es nodes =
     (length nodes ≡ different cs)
     × ((c : ℕ) (d : Node) → c < length nodes
-    → ((get_or nodes c d).grants ≡ count_by (λ x. x == c) cs) × ((get_or nodes c d).accesses ≡ count_by (λ e. get_or cs e.block 0 == c) es))
+    → ((get_or nodes c d).grants ≡ count_by (λ x. x == c) cs)
+    × ((get_or nodes c d).accesses ≡ count_by (λ e. get_or cs e.block 0 == c) es))
 
 -- an affinity stands for events that make these lists
 pub record Stands (a : Seen) (cs rs : List ℕ) (n : ℕ) (es : List Entry) : Type 0 where
@@ -53,7 +54,8 @@ pub record Stands (a : Seen) (cs rs : List ℕ) (n : ℕ) (es : List Entry) : Ty
   pub dense : (context : ℕ) → is_in cs context ≡ nat_lt context a.contexts
   pub granted_first : All (λ block. block < a.grants) rs
 
-pub stands : (a : Seen) (h : List Event) → Pushed a h → Stands a (contexts_of h) (released_in h) (length (accesses_of h)) (access_list h)
+pub stands : (a : Seen) (h : List Event) → Pushed a h
+    → Stands a (contexts_of h) (released_in h) (length (accesses_of h)) (access_list h)
 stands a h p = record {
   near = p.near;
   grants = p.grants;
@@ -73,7 +75,8 @@ stands a h p = record {
   granted_first = p.granted_first;
 }
 
-pub pushed_by : (a : Seen) (h : List Event) → Legal h → Stands a (contexts_of h) (released_in h) (length (accesses_of h)) (access_list h) → Pushed a h
+pub pushed_by : (a : Seen) (h : List Event) → Legal h
+    → Stands a (contexts_of h) (released_in h) (length (accesses_of h)) (access_list h) → Pushed a h
 pushed_by a h legal s = record {
   legal = legal;
   near = s.near;
@@ -95,7 +98,8 @@ pushed_by a h legal s = record {
 }
 
 pub pushed_from : (a : Seen) (h : List Event) (cs rs : List ℕ) (n : ℕ) (es : List Entry) → Legal h
-    → contexts_of h ≡ cs → released_in h ≡ rs → length (accesses_of h) ≡ n → access_list h ≡ es → Stands a cs rs n es → Pushed a h
+    → contexts_of h ≡ cs → released_in h ≡ rs → length (accesses_of h) ≡ n → access_list h ≡ es → Stands a cs rs n es
+    → Pushed a h
 pushed_from a h cs rs n es legal cs_is rs_is n_is es_is s =
     let s1 = subst (λ xs. Stands a xs rs n es) (sym cs_is) s in
     let s2 = subst (λ xs. Stands a (contexts_of h) xs n es) (sym rs_is) s1 in
@@ -104,7 +108,8 @@ pushed_from a h cs rs n es legal cs_is rs_is n_is es_is s =
     pushed_by a h legal s4
 
 -- tests that agree on all items count the same
-same_count_by : {X : Type 0} (P : X → Type 0) (f g : X → Bool) (xs : List X) → All P xs → ((x : X) → P x → f x ≡ g x) → count_by f xs ≡ count_by g xs
+same_count_by : {X : Type 0} (P : X → Type 0) (f g : X → Bool) (xs : List X) → All P xs → ((x : X) → P x → f x ≡ g x)
+    → count_by f xs ≡ count_by g xs
 same_count_by P f g [] all same = refl
 same_count_by P f g (x ∷ xs) all same =
     let here : one (f x) ≡ one (g x) = ap one (same x (All-head P x xs all)) in
@@ -112,7 +117,8 @@ same_count_by P f g (x ∷ xs) all same =
     omega (arith, sum_by-cons (λ y. one (f y)) x xs, sum_by-cons (λ y. one (g y)) x xs, here, later)
 
 -- a test that no item passes counts none
-none_counted : {X : Type 0} (P : X → Type 0) (f : X → Bool) (xs : List X) → All P xs → ((x : X) → P x → f x ≡ false) → count_by f xs ≡ 0
+none_counted : {X : Type 0} (P : X → Type 0) (f : X → Bool) (xs : List X) → All P xs → ((x : X) → P x → f x ≡ false)
+    → count_by f xs ≡ 0
 none_counted P f [] all none = refl
 none_counted P f (x ∷ xs) all none =
     let here : one (f x) ≡ 0 = ap one (none x (All-head P x xs all)) in
@@ -120,11 +126,13 @@ none_counted P f (x ∷ xs) all none =
 
 is_in_at : (xs : List ℕ) (i : ℕ) → i < length xs → is_in xs (get_or xs i 0) ≡ true
 is_in_at xs i h =
-    or_at (λ ys. list_any (λ y. y == get_or xs i 0) ys) (λ y. y == get_or xs i 0) refl (λ _ _. refl) xs i 0 h (is_same (get_or xs i 0) (get_or xs i 0) refl)
+    or_at (λ ys. list_any (λ y. y == get_or xs i 0) ys) (λ y. y == get_or xs i 0) refl (λ _ _. refl) xs i 0 h
+    (is_same (get_or xs i 0) (get_or xs i 0) refl)
 
 not_in : (xs : List ℕ) (n : ℕ) → All (λ x. x < n) xs → is_in xs n ≡ false
 not_in xs n all =
-    or_from_places (λ ys. list_any (λ y. y == n) ys) (λ y. y == n) refl (λ _ _. refl) xs 0 (λ i h. is_other (get_or xs i 0) n (λ e. omega (arith, all i 0 h, e)))
+    or_from_places (λ ys. list_any (λ y. y == n) ys) (λ y. y == n) refl (λ _ _. refl) xs 0
+    (λ i h. is_other (get_or xs i 0) n (λ e. omega (arith, all i 0 h, e)))
 
 below_from : (x n : ℕ) → nat_lt x n ≡ true → x < n
 below_from x n e = grind (arith, nat_tests)
@@ -142,11 +150,13 @@ not_true false e = refl
 module _ (a : Seen) (cs rs : List ℕ) (n : ℕ) (es : List Entry) (s : Stands a cs rs n es) where
   -- the blocks of entries were granted
   pub blocks_known : All (λ e. e.block < length cs) es
-  blocks_known = All-weaker (λ e. e.block < length a.memory.ring.lasts) (λ e. e.block < length cs) (λ e h. omega (arith, h, s.ring_blocks, s.grants)) es s.ring.blocks
+  blocks_known = All-weaker (λ e. e.block < length a.memory.ring.lasts) (λ e. e.block < length cs)
+      (λ e h. omega (arith, h, s.ring_blocks, s.grants)) es s.ring.blocks
 
   -- the contexts of granted blocks have nodes
   pub contexts_known : (block : ℕ) → block < length cs → get_or cs block 0 < a.contexts
-  contexts_known block h = below_from (get_or cs block 0) a.contexts (sym (s.dense (get_or cs block 0)) ∙ is_in_at cs block h)
+  contexts_known block h = below_from (get_or cs block 0) a.contexts (sym (s.dense (get_or cs block 0))
+      ∙ is_in_at cs block h)
 
   pub nodes_long : length a.memory.nodes ≡ a.contexts
   nodes_long = s.nodes.0 ∙ sym s.contexts
@@ -159,12 +169,15 @@ module _ (a : Seen) (cs rs : List ℕ) (n : ℕ) (es : List Entry) (s : Stands a
       (omega (arith, s.grants), not_true (is_in rs block) (sym here ∙ s.living block true inside))
 
 -- a grant more of a context: its node, old or new, counts it
-nodes_grant : (a : Seen) (cs rs : List ℕ) (n : ℕ) (es : List Entry) (context : ℕ) → Stands a cs rs n es → context ≤ a.contexts
+nodes_grant : (a : Seen) (cs rs : List ℕ) (n : ℕ) (es : List Entry) (context : ℕ) → Stands a cs rs n es
+    → context ≤ a.contexts
     → NodesOf (cs ++ (context ∷ [])) es (grant_counted context a.memory.nodes)
 nodes_grant a cs rs n es context s low = (count, each)
   where
-    same_entries : (c : ℕ) → count_by (λ e. get_or (cs ++ (context ∷ [])) e.block 0 == c) es ≡ count_by (λ e. get_or cs e.block 0 == c) es
-    same_entries c = same_count_by (λ e. e.block < length cs) (λ e. get_or (cs ++ (context ∷ [])) e.block 0 == c) (λ e. get_or cs e.block 0 == c) es (blocks_known a cs rs n es s)
+    same_entries : (c : ℕ) → count_by (λ e. get_or (cs ++ (context ∷ [])) e.block 0 == c) es
+        ≡ count_by (λ e. get_or cs e.block 0 == c) es
+    same_entries c = same_count_by (λ e. e.block < length cs) (λ e. get_or (cs ++ (context ∷ [])) e.block 0 == c)
+        (λ e. get_or cs e.block 0 == c) es (blocks_known a cs rs n es s)
         (λ e h. ap (λ x. x == c) (get_or_append_left cs (context ∷ []) 0 e.block h))
 
     grants : (c : ℕ) → count_by (λ x. x == c) (cs ++ (context ∷ [])) ≡ count_by (λ x. x == c) cs + one (context == c)
@@ -180,16 +193,19 @@ nodes_grant a cs rs n es context s low = (count, each)
     count =
         elim (cases_eq context (length a.memory.nodes)) [
           | inl at ↦ rw (is_same context (length a.memory.nodes) at)
-              (length_push a.memory.nodes (one_grant no_node) ∙ (let f : fresh (nat_lt context a.contexts) ≡ 1 = ap fresh (not_below context a.contexts (omega arith)) in
+              (length_push a.memory.nodes (one_grant no_node) ∙ (let f : fresh (nat_lt context a.contexts) ≡ 1 =
+              ap fresh (not_below context a.contexts (omega arith)) in
               omega (arith, grown_count, f)))
           | inr other ↦ rw (is_other context (length a.memory.nodes) other)
-              (length-set a.memory.nodes context _ ∙ (let f : fresh (nat_lt context a.contexts) ≡ 0 = ap fresh (let b : nat_lt context a.contexts ≡ true = grind (arith, nat_tests) in b) in
+              (length-set a.memory.nodes context _ ∙ (let f : fresh (nat_lt context a.contexts) ≡ 0 =
+              ap fresh (let b : nat_lt context a.contexts ≡ true = grind (arith, nat_tests) in b) in
               omega (arith, grown_count, f)))
         ]
 
     each : (c : ℕ) (d : Node) → c < length (grant_counted context a.memory.nodes)
         → ((get_or (grant_counted context a.memory.nodes) c d).grants ≡ count_by (λ x. x == c) (cs ++ (context ∷ [])))
-        × ((get_or (grant_counted context a.memory.nodes) c d).accesses ≡ count_by (λ e. get_or (cs ++ (context ∷ [])) e.block 0 == c) es)
+        × ((get_or (grant_counted context a.memory.nodes) c d).accesses
+        ≡ count_by (λ e. get_or (cs ++ (context ∷ [])) e.block 0 == c) es)
     each c d inside =
         elim (cases_eq context (length a.memory.nodes)) [
           | inl at ↦ new at (rw (is_same context (length a.memory.nodes) at) at inside)
@@ -197,69 +213,114 @@ nodes_grant a cs rs n es context s low = (count, each)
         ]
       where
         new : context ≡ length a.memory.nodes → c < length (a.memory.nodes ++ (one_grant no_node ∷ []))
-            → ((get_or (grant_counted context a.memory.nodes) c d).grants ≡ count_by (λ x. x == c) (cs ++ (context ∷ [])))
-            × ((get_or (grant_counted context a.memory.nodes) c d).accesses ≡ count_by (λ e. get_or (cs ++ (context ∷ [])) e.block 0 == c) es)
+            → ((get_or (grant_counted context a.memory.nodes) c d).grants
+            ≡ count_by (λ x. x == c) (cs ++ (context ∷ [])))
+            × ((get_or (grant_counted context a.memory.nodes) c d).accesses
+            ≡ count_by (λ e. get_or (cs ++ (context ∷ [])) e.block 0 == c) es)
         new at deep =
             elim (cases_lt c (length a.memory.nodes)) [
               | inl below ↦
                   (let before = s.nodes.1 c d below in
                   let none : one (context == c) ≡ 0 = ap one (is_other context c (λ e. omega arith)) in
-                  rw (is_same context (length a.memory.nodes) at, get_or_append_left a.memory.nodes (one_grant no_node ∷ []) d c below, grants c, same_entries c)
+                  rw (
+                    is_same context (length a.memory.nodes) at,
+                    get_or_append_left a.memory.nodes (one_grant no_node ∷ []) d c below,
+                    grants c,
+                    same_entries c,
+                  )
                   (omega (arith, before.0, none), before.1))
               | inr above ↦
-                  (let here : length a.memory.nodes ≡ c = omega (arith, length_push a.memory.nodes (one_grant no_node)) in
-                  let all_below : All (λ x. x < a.contexts) cs = λ k e h. (let there : get_or cs k e ≡ get_or cs k 0 = get_or_default cs k e 0 h in omega (arith, there, contexts_known a cs rs n es s k h)) in
-                  let none : count_by (λ x. x == c) cs ≡ 0 = none_counted (λ x. x < a.contexts) (λ x. x == c) cs all_below (λ x h. is_other x c (λ e. omega arith)) in
+                  (let here : length a.memory.nodes ≡ c =
+                  omega (arith, length_push a.memory.nodes (one_grant no_node)) in
+                  let all_below : All (λ x. x < a.contexts) cs = λ k e h. (let there : get_or cs k e ≡ get_or cs k 0 =
+                  get_or_default cs k e 0 h in omega (arith, there, contexts_known a cs rs n es s k h)) in
+                  let none : count_by (λ x. x == c) cs ≡ 0 = none_counted (λ x. x < a.contexts)
+                  (λ x. x == c) cs all_below (λ x h. is_other x c (λ e. omega arith)) in
                   let no_entry : count_by (λ e. get_or cs e.block 0 == c) es ≡ 0 =
-                  none_counted (λ e. e.block < length cs) (λ e. get_or cs e.block 0 == c) es (blocks_known a cs rs n es s)
-                  (λ e h. is_other (get_or cs e.block 0) c (λ same. omega (arith, contexts_known a cs rs n es s e.block h, same))) in
+                  none_counted (λ e. e.block < length cs) (λ e. get_or cs e.block 0 == c) es
+                  (blocks_known a cs rs n es s)
+                  (λ e h. is_other (get_or cs e.block 0) c (λ same.
+                  omega (arith, contexts_known a cs rs n es s e.block h, same))) in
                   let itself : one (context == c) ≡ 1 = ap one (is_same context c (omega arith)) in
-                  rw (is_same context (length a.memory.nodes) at, get_or_push a.memory.nodes (one_grant no_node) d c here, grants c, same_entries c)
+                  rw (
+                    is_same context (length a.memory.nodes) at,
+                    get_or_push a.memory.nodes (one_grant no_node) d c here,
+                    grants c,
+                    same_entries c,
+                  )
                   (omega (arith, none, itself), sym no_entry))
             ]
 
-        old : (context ≡ length a.memory.nodes → ⊥) → c < length (set a.memory.nodes context (one_grant (get_or a.memory.nodes context no_node)))
-            → ((get_or (grant_counted context a.memory.nodes) c d).grants ≡ count_by (λ x. x == c) (cs ++ (context ∷ [])))
-            × ((get_or (grant_counted context a.memory.nodes) c d).accesses ≡ count_by (λ e. get_or (cs ++ (context ∷ [])) e.block 0 == c) es)
+        old : (context ≡ length a.memory.nodes → ⊥)
+            → c < length (set a.memory.nodes context (one_grant (get_or a.memory.nodes context no_node)))
+            → ((get_or (grant_counted context a.memory.nodes) c d).grants
+            ≡ count_by (λ x. x == c) (cs ++ (context ∷ [])))
+            × ((get_or (grant_counted context a.memory.nodes) c d).accesses
+            ≡ count_by (λ e. get_or (cs ++ (context ∷ [])) e.block 0 == c) es)
         old other deep =
-            let within : c < length a.memory.nodes = omega (arith, length-set a.memory.nodes context (one_grant (get_or a.memory.nodes context no_node))) in
+            let within : c < length a.memory.nodes =
+            omega (arith, length-set a.memory.nodes context (one_grant (get_or a.memory.nodes context no_node))) in
             elim (cases_eq c context) [
               | inl at ↦
                   (let known : context < length a.memory.nodes = omega arith in
                   let before = s.nodes.1 c no_node within in
                   let itself : one (context == c) ≡ 1 = ap one (is_same context c (sym at)) in
-                  let node : get_or (set a.memory.nodes context (one_grant (get_or a.memory.nodes context no_node))) c d ≡ one_grant (get_or a.memory.nodes c no_node) =
-                  ap (λ k. get_or (set a.memory.nodes context (one_grant (get_or a.memory.nodes context no_node))) k d) at
-                  ∙ (get_or-set_same a.memory.nodes context (one_grant (get_or a.memory.nodes context no_node)) d known ∙ ap (λ k. one_grant (get_or a.memory.nodes k no_node)) (sym at)) in
-                  rw (is_other context (length a.memory.nodes) other, node, grants c, same_entries c) (omega (arith, before.0, itself), before.1))
+                  let node : get_or (set a.memory.nodes context (one_grant (get_or a.memory.nodes context no_node))) c d
+                  ≡ one_grant (get_or a.memory.nodes c no_node) =
+                  ap (λ k. get_or (set a.memory.nodes context
+                  (one_grant (get_or a.memory.nodes context no_node))) k d) at
+                  ∙ (get_or-set_same a.memory.nodes context (one_grant (get_or a.memory.nodes context no_node)) d known
+                  ∙ ap (λ k. one_grant (get_or a.memory.nodes k no_node)) (sym at)) in
+                  rw (is_other context (length a.memory.nodes) other, node, grants c, same_entries c)
+                  (omega (arith, before.0, itself), before.1))
               | inr apart ↦
                   (let before = s.nodes.1 c d within in
                   let none : one (context == c) ≡ 0 = ap one (is_other context c (λ e. apart (sym e))) in
-                  rw (is_other context (length a.memory.nodes) other, get_or-set_other a.memory.nodes context c (one_grant (get_or a.memory.nodes context no_node)) d apart, grants c, same_entries c)
+                  rw (
+                    is_other context (length a.memory.nodes) other,
+                    get_or-set_other a.memory.nodes context c
+                        (one_grant (get_or a.memory.nodes context no_node)) d apart,
+                    grants c,
+                    same_entries c,
+                  )
                   (omega (arith, before.0, none), before.1))
             ]
 
 -- an entry more of a block
-nodes_access : (cs : List ℕ) (es : List Entry) (nodes : List Node) (e : Entry) → NodesOf cs es nodes → get_or cs e.block 0 < length nodes
+nodes_access : (cs : List ℕ) (es : List Entry) (nodes : List Node) (e : Entry) → NodesOf cs es nodes
+    → get_or cs e.block 0 < length nodes
     → NodesOf cs (es ++ (e ∷ [])) (access_counted (get_or cs e.block 0) nodes)
 nodes_access cs es nodes e is known = (
   length-set nodes (get_or cs e.block 0) _ ∙ is.0,
   λ c d inside.
-      let more : count_by (λ x. get_or cs x.block 0 == c) (es ++ (e ∷ [])) ≡ count_by (λ x. get_or cs x.block 0 == c) es + one (get_or cs e.block 0 == c) =
+      let more : count_by (λ x. get_or cs x.block 0 == c) (es ++ (e ∷ []))
+      ≡ count_by (λ x. get_or cs x.block 0 == c) es + one (get_or cs e.block 0 == c) =
       sum_by_push (λ (x : Entry). one (get_or cs x.block 0 == c)) es e in
-      let within : c < length nodes = omega (arith, length-set nodes (get_or cs e.block 0) (one_access (get_or nodes (get_or cs e.block 0) no_node))) in
+      let within : c < length nodes = omega (
+        arith,
+        length-set nodes (get_or cs e.block 0) (one_access (get_or nodes (get_or cs e.block 0) no_node)),
+      ) in
       elim (cases_eq c (get_or cs e.block 0)) [
         | inl at ↦
             (let before = is.1 c no_node within in
             let itself : one (get_or cs e.block 0 == c) ≡ 1 = ap one (is_same (get_or cs e.block 0) c (sym at)) in
-            let node : get_or (set nodes (get_or cs e.block 0) (one_access (get_or nodes (get_or cs e.block 0) no_node))) c d ≡ one_access (get_or nodes c no_node) =
-            ap (λ k. get_or (set nodes (get_or cs e.block 0) (one_access (get_or nodes (get_or cs e.block 0) no_node))) k d) at
-            ∙ (get_or-set_same nodes (get_or cs e.block 0) (one_access (get_or nodes (get_or cs e.block 0) no_node)) d known ∙ ap (λ k. one_access (get_or nodes k no_node)) (sym at)) in
+            let node : get_or (set nodes (get_or cs e.block 0)
+            (one_access (get_or nodes (get_or cs e.block 0) no_node))) c d ≡ one_access (get_or nodes c no_node) =
+            ap (λ k. get_or (set nodes (get_or cs e.block 0)
+            (one_access (get_or nodes (get_or cs e.block 0) no_node))) k d) at
+            ∙ (get_or-set_same nodes (get_or cs e.block 0)
+            (one_access (get_or nodes (get_or cs e.block 0) no_node)) d known
+            ∙ ap (λ k. one_access (get_or nodes k no_node)) (sym at)) in
             rw (node, more) (before.0, omega (arith, before.1, itself)))
         | inr apart ↦
             (let before = is.1 c d within in
-            let none : one (get_or cs e.block 0 == c) ≡ 0 = ap one (is_other (get_or cs e.block 0) c (λ k. apart (sym k))) in
-            rw (get_or-set_other nodes (get_or cs e.block 0) c (one_access (get_or nodes (get_or cs e.block 0) no_node)) d apart, more)
+            let none : one (get_or cs e.block 0 == c) ≡ 0 =
+            ap one (is_other (get_or cs e.block 0) c (λ k. apart (sym k))) in
+            rw (
+              get_or-set_other nodes (get_or cs e.block 0) c
+                  (one_access (get_or nodes (get_or cs e.block 0) no_node)) d apart,
+              more,
+            )
             (before.0, omega (arith, before.1, none)))
       ],
 )
@@ -280,11 +341,14 @@ after_grant context a = record {
   };
 }
 
-stands_grant : (a : Seen) (cs rs : List ℕ) (n : ℕ) (es : List Entry) (context : ℕ) → Stands a cs rs n es → context ≤ a.contexts → a.grants < 4294967295
+stands_grant : (a : Seen) (cs rs : List ℕ) (n : ℕ) (es : List Entry) (context : ℕ) → Stands a cs rs n es
+    → context ≤ a.contexts → a.grants < 4294967295
     → Stands (after_grant context a) (cs ++ (context ∷ [])) rs n es
 stands_grant a cs rs n es context s low room =
-    let list : a.memory.granted.contexts ++ (context ∷ []) ≡ cs ++ (context ∷ []) = ap (λ xs. xs ++ (context ∷ [])) s.context_list in
-    let more : length (a.memory.granted.contexts ++ (context ∷ [])) ≡ length cs + 1 = ap length list ∙ length_push cs context in
+    let list : a.memory.granted.contexts ++ (context ∷ []) ≡ cs ++ (context ∷ []) =
+    ap (λ xs. xs ++ (context ∷ [])) s.context_list in
+    let more : length (a.memory.granted.contexts ++ (context ∷ [])) ≡ length cs + 1 =
+    ap length list ∙ length_push cs context in
     let count : (with_grant context a.memory.granted).count ≡ a.contexts + fresh (nat_lt context a.contexts) =
     ap (λ k. if context == k then k + 1 else k) s.context_count ∙ count_grown context a.contexts low in
     record {
@@ -298,7 +362,8 @@ stands_grant a cs rs n es context s low room =
         | inl old ↦ rw (get_or_append_left a.lives (true ∷ []) d block (omega (arith, s.lives))) (s.living block d old)
         | inr new ↦
             (let at : length a.lives ≡ block = omega (arith, s.lives, s.grants, more) in
-            let none : is_in rs block ≡ false = not_in rs block (All-weaker (λ b. b < a.grants) (λ b. b < block) (λ b h. omega (arith, s.lives)) rs s.granted_first) in
+            let none : is_in rs block ≡ false = not_in rs block
+            (All-weaker (λ b. b < a.grants) (λ b. b < block) (λ b h. omega (arith, s.lives)) rs s.granted_first) in
             rw (get_or_push a.lives true d block at, none) refl)
       ];
       context_list = list;
@@ -306,37 +371,49 @@ stands_grant a cs rs n es context s low room =
       ring = follows_block a.distance a.memory.ring es s.ring;
       ring_blocks = omega (arith, length_push a.memory.ring.lasts None, s.ring_blocks, s.grants, more);
       nodes = nodes_grant a cs rs n es context s low;
-      weights = λ low high. s.weights low high ∙ sym (weight_grant a.distance cs context es low high (blocks_known a cs rs n es s));
+      weights = λ low high. s.weights low high
+          ∙ sym (weight_grant a.distance cs context es low high (blocks_known a cs rs n es s));
       counted = s.counted;
-      dense = dense_push cs context a.contexts (with_grant context a.memory.granted).count s.dense low (rw (s.dense context) count);
-      granted_first = All-weaker (λ b. b < a.grants) (λ b. b < length (a.memory.granted.contexts ++ (context ∷ []))) (λ b h. omega (arith, more, s.grants)) rs s.granted_first;
+      dense = dense_push cs context a.contexts (with_grant context a.memory.granted).count s.dense low
+          (rw (s.dense context) count);
+      granted_first = All-weaker (λ b. b < a.grants) (λ b. b < length (a.memory.granted.contexts ++ (context ∷ [])))
+          (λ b h. omega (arith, more, s.grants)) rs s.granted_first;
     }
 
 -- a grant
-pub grant_pushed : (a : Seen) (h : List Event) (context : ℕ) → Pushed a h → Takes a (Grant a.grants context) → Pushed (after_grant context a) (h ++ (Grant a.grants context ∷ []))
+pub grant_pushed : (a : Seen) (h : List Event) (context : ℕ) → Pushed a h → Takes a (Grant a.grants context)
+    → Pushed (after_grant context a) (h ++ (Grant a.grants context ∷ []))
 grant_pushed a h context p t =
     let e : Event = Grant a.grants context in
-    let may : MayFollow h (Grant a.grants context) = (omega (arith, t.2, p.grants), p.grants, omega (arith, t.1, p.contexts)) in
-    pushed_from (after_grant context a) (h ++ (Grant a.grants context ∷ [])) (contexts_of h ++ (context ∷ [])) (released_in h) (length (accesses_of h)) (access_list h)
+    let may : MayFollow h (Grant a.grants context) =
+    (omega (arith, t.2, p.grants), p.grants, omega (arith, t.1, p.contexts)) in
+    pushed_from (after_grant context a) (h ++ (Grant a.grants context ∷ [])) (contexts_of h ++ (context ∷ []))
+    (released_in h) (length (accesses_of h)) (access_list h)
     (legal_push h (Grant a.grants context) p.legal may)
-    (grown context_granted h (Grant a.grants context) context refl) (kept_same block_released h (Grant a.grants context) refl)
-    (ap length (kept_same entry_of h (Grant a.grants context) refl)) (ap (λ xs. dedup same_block xs) (kept_same entry_of h (Grant a.grants context) refl))
-    (stands_grant a (contexts_of h) (released_in h) (length (accesses_of h)) (access_list h) context (stands a h p) t.1 t.2)
+    (grown context_granted h (Grant a.grants context) context refl)
+    (kept_same block_released h (Grant a.grants context) refl)
+    (ap length (kept_same entry_of h (Grant a.grants context) refl))
+    (ap (λ xs. dedup same_block xs) (kept_same entry_of h (Grant a.grants context) refl))
+    (stands_grant a (contexts_of h) (released_in h) (length (accesses_of h)) (access_list h) context
+    (stands a h p) t.1 t.2)
 
 -- an affinity after a release
 abbrev pub after_release : ℕ → Seen → Seen
 after_release block a = record a { lives = set a.lives block false }
 
 -- a release
-pub release_pushed : (a : Seen) (h : List Event) (block : ℕ) → Pushed a h → Takes a (Release block) → Pushed (after_release block a) (h ++ (Release block ∷ []))
+pub release_pushed : (a : Seen) (h : List Event) (block : ℕ) → Pushed a h → Takes a (Release block)
+    → Pushed (after_release block a) (h ++ (Release block ∷ []))
 release_pushed a h block p t =
     let s = stands a h p in
     let lives = live a (contexts_of h) (released_in h) (length (accesses_of h)) (access_list h) s block t in
     let known : block < length a.lives = slice_get_within a.lives block true t in
-    pushed_from (after_release block a) (h ++ (Release block ∷ [])) (contexts_of h) (released_in h ++ (block ∷ [])) (length (accesses_of h)) (access_list h)
+    pushed_from (after_release block a) (h ++ (Release block ∷ [])) (contexts_of h) (released_in h ++ (block ∷ []))
+    (length (accesses_of h)) (access_list h)
     (legal_push h (Release block) p.legal lives)
     (kept_same context_granted h (Release block) refl) (grown block_released h (Release block) block refl)
-    (ap length (kept_same entry_of h (Release block) refl)) (ap (λ xs. dedup same_block xs) (kept_same entry_of h (Release block) refl))
+    (ap length (kept_same entry_of h (Release block) refl))
+    (ap (λ xs. dedup same_block xs) (kept_same entry_of h (Release block) refl))
     (record {
       near = s.near;
       grants = s.grants;
@@ -345,8 +422,17 @@ release_pushed a h block p t =
       few = s.few;
       lives = length-set a.lives block false ∙ s.lives;
       living = λ b d inside. elim (cases_eq b block) [
-        | inl at ↦ rw (at, get_or-set_same a.lives block false d known, is_in_push (released_in h) block block, is_same block block refl) (or_true (is_in (released_in h) block))
-        | inr other ↦ rw (get_or-set_other a.lives block b false d other, is_in_push (released_in h) block b, is_other block b (λ e. other (sym e))) (s.living b d inside ∙ or_none (is_in (released_in h) b))
+        | inl at ↦ rw (
+          at,
+          get_or-set_same a.lives block false d known,
+          is_in_push (released_in h) block block,
+          is_same block block refl,
+        ) (or_true (is_in (released_in h) block))
+        | inr other ↦ rw (
+          get_or-set_other a.lives block b false d other,
+          is_in_push (released_in h) block b,
+          is_other block b (λ e. other (sym e)),
+        ) (s.living b d inside ∙ or_none (is_in (released_in h) b))
       ];
       context_list = s.context_list;
       context_count = s.context_count;
@@ -371,20 +457,29 @@ release_pushed a h block p t =
 abbrev pub after_same : Seen → Seen
 after_same a = record a { accesses = a.accesses + 1 }
 
-may_access : (a : Seen) (h : List Event) (block width : ℕ) → Pushed a h → Takes a (Access block width) → MayFollow h (Access block width)
-may_access a h block width p t =
-    (omega (arith, t.2, p.accesses), t.0, live a (contexts_of h) (released_in h) (length (accesses_of h)) (access_list h) (stands a h p) block t.1)
+may_access : (a : Seen) (h : List Event) (block width : ℕ) → Pushed a h → Takes a (Access block width)
+    → MayFollow h (Access block width)
+may_access a h block width p t = (
+  omega (arith, t.2, p.accesses),
+  t.0,
+  live a (contexts_of h) (released_in h) (length (accesses_of h))
+      (access_list h) (stands a h p) block t.1,
+)
 
 -- an access to the block of the last entry
-pub same_pushed : (a : Seen) (h : List Event) (block width : ℕ) → Pushed a h → Takes a (Access block width) → ends_with a.memory.ring.entries block ≡ true
+pub same_pushed : (a : Seen) (h : List Event) (block width : ℕ) → Pushed a h → Takes a (Access block width)
+    → ends_with a.memory.ring.entries block ≡ true
     → Pushed (after_same a) (h ++ (Access block width ∷ []))
 same_pushed a h block width p t ends =
     let s = stands a h p in
-    let last : ends_with (access_list h) block ≡ true = sym (ap (λ xs. ends_with xs block) s.ring.entries ∙ ends_in_reach a.distance (access_list h) block) ∙ ends in
-    pushed_from (after_same a) (h ++ (Access block width ∷ [])) (contexts_of h) (released_in h) (length (accesses_of h) + 1) (access_list h)
+    let last : ends_with (access_list h) block ≡ true =
+    sym (ap (λ xs. ends_with xs block) s.ring.entries ∙ ends_in_reach a.distance (access_list h) block) ∙ ends in
+    pushed_from (after_same a) (h ++ (Access block width ∷ [])) (contexts_of h) (released_in h)
+    (length (accesses_of h) + 1) (access_list h)
     (legal_push h (Access block width) p.legal (may_access a h block width p t))
     (kept_same context_granted h (Access block width) refl) (kept_same block_released h (Access block width) refl)
-    (ap length (grown entry_of h (Access block width) (record { block = block; width = width }) refl) ∙ length_push (accesses_of h) (record { block = block; width = width }))
+    (ap length (grown entry_of h (Access block width) (record { block = block; width = width }) refl)
+    ∙ length_push (accesses_of h) (record { block = block; width = width }))
     (access_same h block width last)
     (record {
       near = s.near;
@@ -418,21 +513,32 @@ after_access e weights a = record a {
 }
 
 -- an access to another block
-pub access_pushed : (a : Seen) (h : List Event) (e : Entry) (weights : List (Pair × ℕ)) → Pushed a h → Takes a (Access e.block e.width) → ends_with a.memory.ring.entries e.block ≡ false
-    → ((low high : ℕ) → weight_at weights low high ≡ weight_at a.memory.weights low high + near_count a.memory.granted.contexts e.block low high (entered a.distance a.memory.ring e).entries)
+pub access_pushed : (a : Seen) (h : List Event) (e : Entry) (weights : List (Pair × ℕ)) → Pushed a h
+    → Takes a (Access e.block e.width) → ends_with a.memory.ring.entries e.block ≡ false
+    → ((low high : ℕ) → weight_at weights low high ≡ weight_at a.memory.weights low high
+    + near_count a.memory.granted.contexts e.block low high (entered a.distance a.memory.ring e).entries)
     → All (λ x. 0 < x.1) weights
     → Pushed (after_access e weights a) (h ++ (Access e.block e.width ∷ []))
 access_pushed a h e weights p t ends raised counted =
     let s = stands a h p in
     let lives = live a (contexts_of h) (released_in h) (length (accesses_of h)) (access_list h) s e.block t.1 in
-    let last : ends_with (access_list h) e.block ≡ false = sym (ap (λ xs. ends_with xs e.block) s.ring.entries ∙ ends_in_reach a.distance (access_list h) e.block) ∙ ends in
-    let ring = follows_push a.distance a.memory.ring (access_list h) e s.ring (omega (arith, s.ring_blocks, s.grants, lives.0)) in
+    let last : ends_with (access_list h) e.block ≡ false =
+    sym (ap (λ xs. ends_with xs e.block) s.ring.entries ∙ ends_in_reach a.distance (access_list h) e.block)
+    ∙ ends in
+    let ring = follows_push a.distance a.memory.ring (access_list h) e s.ring
+    (omega (arith, s.ring_blocks, s.grants, lives.0)) in
     let list : a.memory.granted.contexts ≡ contexts_of h = s.context_list in
     let node_known : get_or (contexts_of h) e.block 0 < length a.memory.nodes =
-    omega (arith, nodes_long a (contexts_of h) (released_in h) (length (accesses_of h)) (access_list h) s, contexts_known a (contexts_of h) (released_in h) (length (accesses_of h)) (access_list h) s e.block lives.0) in
-    pushed_from (after_access e weights a) (h ++ (Access e.block e.width ∷ [])) (contexts_of h) (released_in h) (length (accesses_of h) + 1) (access_list h ++ (e ∷ []))
+    omega (
+      arith,
+      nodes_long a (contexts_of h) (released_in h) (length (accesses_of h)) (access_list h) s,
+      contexts_known a (contexts_of h) (released_in h) (length (accesses_of h)) (access_list h) s e.block lives.0,
+    ) in
+    pushed_from (after_access e weights a) (h ++ (Access e.block e.width ∷ [])) (contexts_of h) (released_in h)
+    (length (accesses_of h) + 1) (access_list h ++ (e ∷ []))
     (legal_push h (Access e.block e.width) p.legal (may_access a h e.block e.width p t))
-    (kept_same context_granted h (Access e.block e.width) refl) (kept_same block_released h (Access e.block e.width) refl)
+    (kept_same context_granted h (Access e.block e.width) refl)
+    (kept_same block_released h (Access e.block e.width) refl)
     (ap length (grown entry_of h (Access e.block e.width) e refl) ∙ length_push (accesses_of h) e)
     (access_new h e.block e.width last)
     (record {
@@ -447,13 +553,22 @@ access_pushed a h e weights p t ends raised counted =
       context_count = s.context_count;
       ring = ring;
       ring_blocks = length-set a.memory.ring.lasts e.block (Some a.memory.ring.count) ∙ s.ring_blocks;
-      nodes = subst (λ k. NodesOf (contexts_of h) (access_list h ++ (e ∷ [])) (access_counted k a.memory.nodes)) (ap (λ xs. get_or xs e.block 0) (sym list))
+      nodes = subst (λ k. NodesOf (contexts_of h) (access_list h ++ (e ∷ [])) (access_counted k a.memory.nodes))
+          (ap (λ xs. get_or xs e.block 0) (sym list))
           (nodes_access (contexts_of h) (access_list h) a.memory.nodes e s.nodes node_known);
       weights = λ low high. (let before = s.weights low high in
           let more : near_count a.memory.granted.contexts e.block low high (entered a.distance a.memory.ring e).entries
           ≡ near_count (contexts_of h) e.block low high (in_reach a.distance (access_list h ++ (e ∷ []))) =
-          ap (λ xs. near_count xs e.block low high (entered a.distance a.memory.ring e).entries) list ∙ ap (near_count (contexts_of h) e.block low high) ring.entries in
-          omega (arith, raised low high, before, more, weight_push (access_list h) e a.distance (contexts_of h) low high));
+          ap (λ xs. near_count xs e.block low high (entered a.distance a.memory.ring e).entries) list
+          ∙ ap (near_count (contexts_of h) e.block low high) ring.entries in
+          omega (
+            arith,
+            raised low high,
+            before,
+            more,
+            weight_push (access_list h) e a.distance
+                (contexts_of h) low high,
+          ));
       counted = counted;
       dense = s.dense;
       granted_first = s.granted_first;
@@ -472,7 +587,13 @@ nothing_pushed distance near = pushed_by (blank_affinity distance) [] legal_nil 
   living = λ block d h. absurd (omega arith);
   context_list = refl;
   context_count = refl;
-  ring = record { entries = refl; count = refl; lasts = λ block d h. absurd (omega arith); blocks = All-nil (λ e. e.block < 0) };
+  ring = record {
+    entries = refl;
+    count = refl;
+    lasts = λ block d h. absurd (omega arith);
+    blocks =
+        All-nil (λ e. e.block < 0);
+  };
   ring_blocks = refl;
   nodes = (refl, λ c d h. absurd (omega arith));
   weights = λ low high. refl;

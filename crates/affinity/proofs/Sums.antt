@@ -44,7 +44,8 @@ abbrev pub at_end : {X : Type 0} → (X → List X → Bool) → List X → Bool
 at_end test [] = false
 at_end test (x ∷ xs) = test x xs
 
-pub count_ends : {X : Type 0} (test : X → List X → Bool) (xs : List X) → count_below (λ k. at_end test (drop k xs)) (length xs) ≡ ends_count test xs
+pub count_ends : {X : Type 0} (test : X → List X → Bool) (xs : List X)
+    → count_below (λ k. at_end test (drop k xs)) (length xs) ≡ ends_count test xs
 count_ends test [] = refl
 count_ends test (x ∷ xs) =
     omega (arith, count_front (λ k. at_end test (drop k (x ∷ xs))) (length xs), count_ends test xs)

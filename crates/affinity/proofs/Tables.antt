@@ -24,9 +24,11 @@ abbrev found : Table → Pair → ℕ
 found es q = unwrap_or (lookup (same_pair q) es) 0
 
 set_here : (t : Bool) (p q r : Pair) (w v : ℕ) (es : Table) → same_pair p r ≡ true → same_pair q r ≡ t → v ≡ w
-    → unwrap_or (cond t (Some (w + 1)) (lookup (same_pair q) es)) 0 ≡ unwrap_or (cond t (Some v) (lookup (same_pair q) es)) 0 + one (same_pair q p)
+    → unwrap_or (cond t (Some (w + 1)) (lookup (same_pair q) es)) 0
+    ≡ unwrap_or (cond t (Some v) (lookup (same_pair q) es)) 0 + one (same_pair q p)
 set_here true p q r w v es same test is = let k : same_pair q p ≡ true = grind (arith, nat_tests) in rw k (omega arith)
-set_here false p q r w v es same test is = let k : same_pair q p ≡ false = grind (arith, nat_tests) in rw k (omega arith)
+set_here false p q r w v es same test is = let k : same_pair q p ≡ false =
+    grind (arith, nat_tests) in rw k (omega arith)
 
 set_later : (t : Bool) (p q r : Pair) (v : ℕ) (before after : Option ℕ) → same_pair p r ≡ false → same_pair q r ≡ t
     → unwrap_or after 0 ≡ unwrap_or before 0 + one (same_pair q p)
@@ -36,14 +38,19 @@ set_later false p q r v before after other test later = later
 
 raised_at : (t : Bool) (p q : Pair) (w : ℕ) (e : Pair × ℕ) (es : Table) → same_pair p e.0 ≡ t
     → cond t (Some e.1) (lookup (same_pair p) es) ≡ Some w
-    → (lookup (same_pair p) es ≡ Some w → found (set_value (same_pair p) es (w + 1)) q ≡ found es q + one (same_pair q p))
-    → found (cond t ((e.0, w + 1) ∷ es) (e ∷ set_value (same_pair p) es (w + 1))) q ≡ found (e ∷ es) q + one (same_pair q p)
-raised_at true p q w e es test is later = let k : e.1 ≡ w = cc in set_here (same_pair q e.0) p q e.0 w e.1 es test refl k
+    → (lookup (same_pair p) es ≡ Some w → found (set_value (same_pair p) es (w + 1)) q
+    ≡ found es q + one (same_pair q p))
+    → found (cond t ((e.0, w + 1) ∷ es) (e ∷ set_value (same_pair p) es (w + 1))) q
+    ≡ found (e ∷ es) q + one (same_pair q p)
+raised_at true p q w e es test is later = let k : e.1 ≡ w =
+    cc in set_here (same_pair q e.0) p q e.0 w e.1 es test refl k
 raised_at false p q w e es test is later =
-    set_later (same_pair q e.0) p q e.0 e.1 (lookup (same_pair q) es) (lookup (same_pair q) (set_value (same_pair p) es (w + 1))) test refl (later is)
+    set_later (same_pair q e.0) p q e.0 e.1 (lookup (same_pair q) es)
+    (lookup (same_pair q) (set_value (same_pair p) es (w + 1))) test refl (later is)
 
 -- a weight that is there is raised by one
-pub raised : (p q : Pair) (w : ℕ) (es : Table) → lookup (same_pair p) es ≡ Some w → found (set_value (same_pair p) es (w + 1)) q ≡ found es q + one (same_pair q p)
+pub raised : (p q : Pair) (w : ℕ) (es : Table) → lookup (same_pair p) es ≡ Some w
+    → found (set_value (same_pair p) es (w + 1)) q ≡ found es q + one (same_pair q p)
 raised p q w [] is = absurd cc
 raised p q w (e ∷ es) is = raised_at (same_pair p e.0) p q w e es refl is (λ later. raised p q w es later)
 
@@ -53,14 +60,16 @@ added_at : (t : Bool) (p q : Pair) (e : Pair × ℕ) (es : Table) → same_pair 
     → found (cond t ((e.0, 1) ∷ es) (e ∷ insert_entry same_pair es p 1)) q ≡ found (e ∷ es) q + one (same_pair q p)
 added_at true p q e es test is later = absurd cc
 added_at false p q e es test is later =
-    set_later (same_pair q e.0) p q e.0 e.1 (lookup (same_pair q) es) (lookup (same_pair q) (insert_entry same_pair es p 1)) test refl (later is)
+    set_later (same_pair q e.0) p q e.0 e.1 (lookup (same_pair q) es)
+    (lookup (same_pair q) (insert_entry same_pair es p 1)) test refl (later is)
 
 added_alone : (t : Bool) → unwrap_or (cond t (Some 1) None) 0 ≡ 0 + one t
 added_alone true = refl
 added_alone false = refl
 
 -- a pair that isn't there gets the weight 1
-pub added : (p q : Pair) (es : Table) → lookup (same_pair p) es ≡ None → found (insert_entry same_pair es p 1) q ≡ found es q + one (same_pair q p)
+pub added : (p q : Pair) (es : Table) → lookup (same_pair p) es ≡ None
+    → found (insert_entry same_pair es p 1) q ≡ found es q + one (same_pair q p)
 added p q [] is = added_alone (same_pair q p)
 added p q (e ∷ es) is = added_at (same_pair p e.0) p q e es refl is (λ later. added p q es later)
 

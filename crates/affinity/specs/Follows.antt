@@ -12,7 +12,8 @@ LacksFrom es block i = (k : ℕ) → i ≤ k → k < length es → block_at es k
 -- the number of a block's last entry, or none where it has no entry
 abbrev pub IsLastOf : List Entry → ℕ → Option ℕ → Type 0
 IsLastOf es block last =
-    MatchOption last (LacksFrom es block 0) (λ k. (k < length es) × (block_at es k ≡ block) × LacksFrom es block (k + 1))
+    MatchOption last (LacksFrom es block 0)
+    (λ k. (k < length es) × (block_at es k ≡ block) × LacksFrom es block (k + 1))
 
 -- the last entry and those in reach of it, how many there were, and each block's last entry
 pub record Follows (distance : ℕ) (a : Held) (es : List Entry) : Type 0 where

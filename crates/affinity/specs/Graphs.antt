@@ -25,7 +25,8 @@ has_ends low high e = (e.low == low) && (e.high == high)
 abbrev pub NodesCount : List Event → List Node → Type 0
 NodesCount h nodes =
     (length nodes ≡ different (contexts_of h))
-    × ((c : ℕ) (d : Node) → c < length nodes → ((slice_index_or nodes c d).grants ≡ grants_of h c) × ((slice_index_or nodes c d).accesses ≡ accesses_in h c))
+    × ((c : ℕ) (d : Node) → c < length nodes
+    → ((slice_index_or nodes c d).grants ≡ grants_of h c) × ((slice_index_or nodes c d).accesses ≡ accesses_in h c))
 
 -- the graph of a list of events: a node for each context, and the pairs of a weight above 0 as edges, in order
 pub record IsGraph (distance : ℕ) (h : List Event) (g : Graph) : Type 0 where

@@ -1,4 +1,4 @@
--- What a list of events says: the contexts of its grants, the blocks released, the access list, and whether it is legal.
+-- What a list of events says: the contexts of its grants, the blocks released, the access list, whether it is legal.
 use Rattle.std.specs.Prelude.{◌≡◌, ℕ, ◌+◌, ◌-◌, ◌^◌, ◌<◌, ◌≤◌, ◌==◌, if◌then◌else◌, Bool, false, List, [], ◌∷◌, ◌++◌, length, filter_map, Option, Some, None}
 use Rattle.std.specs.List.{dedup, list_any}
 use Rattle.plan_core.specs.declared.profiles.Event.{Event}
@@ -65,4 +65,5 @@ MayFollow h (Release block) = Lives h block
 
 -- a list of events is legal where each may come after those before it
 abbrev pub Legal : List Event → Type 0
-Legal h = (before : List Event) (event : Event) (after : List Event) → h ≡ before ++ event ∷ after → MayFollow before event
+Legal h = (before : List Event) (event : Event) (after : List Event) → h ≡ before ++ event ∷ after
+    → MayFollow before event

@@ -27,7 +27,8 @@ pub record Pushed (a : Seen) (h : List Event) : Type 0 where
   pub accesses : a.accesses ≡ length (accesses_of h)
   pub few : (a.grants < 2 ^ 32) × (a.accesses < 2 ^ 32)
   pub lives : length a.lives ≡ a.grants
-  pub living : (block : ℕ) (d : Bool) → block < a.grants → slice_index_or a.lives block d ≡ not (is_in (released_in h) block)
+  pub living : (block : ℕ) (d : Bool) → block < a.grants
+      → slice_index_or a.lives block d ≡ not (is_in (released_in h) block)
   pub context_list : a.memory.granted.contexts ≡ contexts_of h
   pub context_count : a.memory.granted.count ≡ a.contexts
   pub ring : Follows a.distance a.memory.ring (access_list h)

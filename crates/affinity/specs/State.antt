@@ -24,7 +24,8 @@ pub record Memory : Type 0 where
   pub nodes : List Node
   pub weights : List (Pair × ℕ)
 
--- an affinity: its distance, its numbers of grants, of different contexts and of accesses, which blocks live, and the rest
+-- an affinity: its distance, its numbers of grants, of different contexts and of accesses, which blocks live,
+-- and the rest
 pub record Seen : Type 0 where
   pub distance : ℕ
   pub grants : ℕ

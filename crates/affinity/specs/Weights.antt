@@ -40,12 +40,14 @@ is_in_reach distance es i j = nat_le (widths (drop i (take j es))) distance
 -- no grant strictly between those of blocks b and c has the context of either
 abbrev pub co_allocatable : List ℕ → ℕ → ℕ → Bool
 co_allocatable contexts b c =
-    list_all (λ x. not (x == slice_index contexts b) && not (x == slice_index contexts c)) (strictly_between (min b c) (max b c) contexts)
+    list_all (λ x. not (x == slice_index contexts b) && not (x == slice_index contexts c))
+    (strictly_between (min b c) (max b c) contexts)
 
 -- blocks b and c are of the contexts `low` and `high`
 abbrev pub are_of : List ℕ → ℕ → ℕ → ℕ → ℕ → Bool
 are_of contexts b c low high =
-    (min (slice_index contexts b) (slice_index contexts c) == low) && (max (slice_index contexts b) (slice_index contexts c) == high)
+    (min (slice_index contexts b) (slice_index contexts c) == low)
+    && (max (slice_index contexts b) (slice_index contexts c) == high)
 
 -- whether entry j and the block of entry i count for a pair of contexts
 abbrev pub counts : ℕ → List ℕ → List Entry → ℕ → ℕ → ℕ → ℕ → Bool
@@ -53,7 +55,8 @@ counts distance contexts es low high i j =
     is_last_before es i j && is_in_reach distance es i j && co_allocatable contexts (block_at es i) (block_at es j)
     && are_of contexts (block_at es i) (block_at es j) low high
 
--- how often a pair of contexts counts in an access list: once for each entry j and each last entry i before it that does
+-- how often a pair of contexts counts in an access list: once for each entry j and each last entry i before it
+-- that does
 unfoldable pub weight_in : ℕ → List ℕ → List Entry → ℕ → ℕ → ℕ
 weight_in distance contexts es low high =
     sum_below (λ j. count_below (λ i. counts distance contexts es low high i j) j) (length es)

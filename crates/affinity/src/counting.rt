@@ -30,7 +30,8 @@ fn raise(weights: &mut Weights, pair: Pair)
     requires room { 0 < spare weights.old }
     requires small { weight_at weights.old.entries pair.low pair.high < 2 ^ 60 }
     ensures weights { (low high : ℕ) → weight_at weights.new.entries low high
-        ≡ weight_at weights.old.entries low high + (if same_pair (record { low = low; high = high }) pair then 1 else 0) }
+        ≡ weight_at weights.old.entries low high
+        + (if same_pair (record { low = low; high = high }) pair then 1 else 0) }
     ensures counted { All (λ e. 0 < e.1) weights.old.entries → All (λ e. 0 < e.1) weights.new.entries }
     ensures room_left { spare weights.old ≤ spare weights.new + 1 }
 {
@@ -50,7 +51,8 @@ fn count_entry(weights: &mut Weights, grants: &Grants, ring: &Ring, block: u32, 
     requires room { 0 < spare weights.old }
     requires small { (low high : ℕ) → weight_at weights.old.entries low high < 2 ^ 60 }
     ensures weights { (low high : ℕ) → weight_at weights.new.entries low high ≡ weight_at weights.old.entries low high
-        + (if counts_newest grants.now.contexts block low high (block_at ring.now.entries at) (drop (at + 1) ring.now.entries) then 1 else 0) }
+        + (if counts_newest grants.now.contexts block low high
+        (block_at ring.now.entries at) (drop (at + 1) ring.now.entries) then 1 else 0) }
     ensures counted { All (λ e. 0 < e.1) weights.old.entries → All (λ e. 0 < e.1) weights.new.entries }
     ensures room_left { spare weights.old ≤ spare weights.new + 1 }
 {
@@ -70,7 +72,8 @@ pub fn count_near(weights: &mut Weights, grants: &Grants, ring: &Ring, block: u3
     requires known { All (λ e. e.block < length grants.now.contexts) ring.now.entries }
     requires block_known { block < length grants.now.contexts }
     requires room { length ring.now.entries ≤ spare weights.old + 1 }
-    requires small { (low high : ℕ) → weight_at weights.old.entries low high + near_count grants.now.contexts block low high ring.now.entries < 2 ^ 60 }
+    requires small { (low high : ℕ) → weight_at weights.old.entries low high
+        + near_count grants.now.contexts block low high ring.now.entries < 2 ^ 60 }
     ensures weights { (low high : ℕ) → weight_at weights.new.entries low high
         ≡ weight_at weights.old.entries low high + near_count grants.now.contexts block low high ring.now.entries }
     ensures counted { All (λ e. 0 < e.1) weights.old.entries → All (λ e. 0 < e.1) weights.new.entries }

@@ -72,7 +72,8 @@ fn add_grant(grants: &mut Grants, ring: &mut Ring, context: u32) -> Result<(), A
 fn count_grant(nodes: &mut Vec<Node>, context: u32)
     requires dense { context ≤ vec_len nodes.old }
     requires room { vec_len nodes.old < vec_capacity nodes.old }
-    requires small { (d : NodeValue) → context < vec_len nodes.old → (slice_index_or nodes.old.items context d).grants < 2 ^ 32 }
+    requires small { (d : NodeValue) → context < vec_len nodes.old
+        → (slice_index_or nodes.old.items context d).grants < 2 ^ 32 }
     ensures { nodes.new.items ≡ grant_counted context nodes.old.items }
 {
     let at = context as usize;
@@ -152,7 +153,8 @@ impl Affinity {
     // Takes the grant of the next block.
     fn grant(&mut self, context: u32) -> Result<(), AllocError>
         requires { Takes self.old (Grant self.old.grants context) }
-        ensures pushed { OnOk result ((h : List EventValue) → Pushed self.old h → Pushed self.new (h ++ Grant self.old.grants context ∷ [])) }
+        ensures pushed { OnOk result ((h : List EventValue) → Pushed self.old h
+            → Pushed self.new (h ++ Grant self.old.grants context ∷ [])) }
         ensures err { OnErr result (self.new ≡ self.old) }
     {
         self.lives.reserve(1)?;
@@ -166,7 +168,8 @@ impl Affinity {
     // Takes an access to a living block.
     fn access(&mut self, block: u32, width: u32) -> Result<(), AllocError>
         requires { Takes self.old (Access block width) }
-        ensures pushed { OnOk result ((h : List EventValue) → Pushed self.old h → Pushed self.new (h ++ Access block width ∷ [])) }
+        ensures pushed { OnOk result ((h : List EventValue) → Pushed self.old h
+            → Pushed self.new (h ++ Access block width ∷ [])) }
         ensures err { OnErr result (self.new ≡ self.old) }
     {
         if self.ring.ends_with(block) {

@@ -17,5 +17,10 @@ loop-at-preserved c =
 
 pub returns-clause-weights : goal.returns-clause-weights
 returns-clause-weights c = λ low high.
-    let last : c.loop-at.at + 1 ≡ length c.args.ring.now.entries = omega (arith, c.len-at-end.ensures, c.requires.some) in
-    omega (arith, c.loop-at.invariant.0 low high, near_end c.args.grants.now.contexts c.args.block low high c.args.ring.now.entries c.loop-at.at last)
+    let last : c.loop-at.at + 1 ≡ length c.args.ring.now.entries =
+    omega (arith, c.len-at-end.ensures, c.requires.some) in
+    omega (
+      arith,
+      c.loop-at.invariant.0 low high,
+      near_end c.args.grants.now.contexts c.args.block low high c.args.ring.now.entries c.loop-at.at last,
+    )

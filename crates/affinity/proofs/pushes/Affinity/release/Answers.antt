@@ -6,8 +6,10 @@ use Rattle.affinity.proofs.pushes.Affinity.release.Goals as goal
 
 pub invariant_of-self : goal.invariant_of-self
 invariant_of-self c =
-    let t = rw (← c.self.view_is) at c.requires in
-    (c.self.invariant.0 ++ (Release c.args.block ∷ []), release_pushed (seen_of c.self.inside) c.self.invariant.0 c.args.block c.self.invariant.1 t)
+    let t = rw (← c.self.view_is) at c.requires in (
+      c.self.invariant.0 ++ (Release c.args.block ∷ []),
+      release_pushed (seen_of c.self.inside) c.self.invariant.0 c.args.block c.self.invariant.1 t,
+    )
 
 pub returns : goal.returns
 returns c = λ h p.
