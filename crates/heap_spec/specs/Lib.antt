@@ -3,3 +3,4 @@ pub mod Places
 pub mod Tables
 pub mod Requests
 pub mod Service
+pub mod Functions

@@ -1,8 +1,9 @@
 -- The tables of a heap: what their words are for a layout, and their words at the start. Memory is seen
 -- as the words at its multiples of 4. The words from data_at + 4 up to data_at + 64 hold anything, and
 -- so do those of granules at which neither a live block nor a hole begins.
-use Rattle.std.specs.Prelude.{◌≡◌, ℕ, zero, suc, ◌+◌, ◌*◌, ◌<◌, ◌==◌, List, [], ◌∷◌, ◌++◌, replicate, All, Option, Some, None, if◌then◌else◌}
+use Rattle.std.specs.Prelude.{◌≡◌, ℕ, zero, suc, ◌+◌, ◌*◌, ◌<◌, ◌==◌, List, [], ◌∷◌, ◌++◌, flat_map, replicate, All, Option, Some, None, if◌then◌else◌}
 use Rattle.plan_core.specs.declared.types.Area.{Area}
+use Rattle.machine_spec.specs.Widths.{low_bytes}
 use Rattle.place_spec.specs.declared.parts.Hole.{Hole}
 use Rattle.place_spec.specs.declared.parts.Chunk.{Chunk}
 use Rattle.place_spec.specs.Layout.{Layout, current_of, chunk_of}
@@ -50,6 +51,10 @@ unfoldable pub first_words : Area → List ℕ
 first_words area =
     (if area.fallback == 0 then none_word else 0) ∷ replicate 15 0 ++ (replicate 16 none_word ++ (idle_rows area.chunks
     ++ (if area.fallback == 0 then [] else area.fallback ∷ none_word ∷ [])))
+
+-- the first contents of the tables, in bytes
+abbrev pub first_tables : Area → List ℕ
+first_tables area = flat_map (low_bytes 4) (first_words area)
 
 -- words stand in memory from an address on
 abbrev pub HasWords : (memory : ℕ → ℕ) → (at : ℕ) → List ℕ → Type 0

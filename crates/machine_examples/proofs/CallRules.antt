@@ -16,7 +16,8 @@ use Rattle.sym_spec.specs.SymMachine.{SymMachine, value_of}
 use Rattle.sym_spec.specs.SymCalls.{SymTurn, calls}
 use Rattle.sym_spec.specs.SymTurns.{acts}
 use Rattle.machine_examples.proofs.Files.{p3}
-use Rattle.machine_examples.proofs.Setup.{small_start, empty_plan}
+use Rattle.place_spec.specs.Layout.{first_layout}
+use Rattle.machine_examples.proofs.Setup.{small_start, empty_area, empty_plan}
 use Rattle.machine_examples.proofs.SymRuns.{sym_run_opened}
 
 unfoldable call_opened : ⊤
@@ -38,6 +39,8 @@ with_part m = otherwise_same m (stored (is_plain_store p3) m ByteU (Ptr 0 3) par
 abbrev asks : Memory → Value → Value → Value → Value → SymMachine
 asks memory number first buffer count = record {
   memory = memory;
+  layout = first_layout empty_area;
+  at = 0x16090 ∷ [];
   registers = slice_set (slice_set (slice_set (slice_set (replicate 32 (Num 0)) 10 first) 11 buffer) 12 count) 17
       number;
   pc = 0x10100;
@@ -107,6 +110,8 @@ dead_block = refl
 abbrev returns : SymMachine
 returns = record {
   memory = block;
+  layout = first_layout empty_area;
+  at = 0x16090 ∷ [];
   registers = slice_set (replicate 32 (Num 0)) 5 (Ret 0x10104);
   pc = 0x10110;
   bits = 0;

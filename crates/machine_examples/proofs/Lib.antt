@@ -7,3 +7,13 @@ pub mod WholeRuns
 pub mod WholeSymRuns
 pub mod CallRules
 pub mod Notes
+pub mod HeapCalls
+pub mod HeapFiles
+pub mod HeapSetup
+pub mod NewHeapFiles
+pub mod HeapNotes
+pub mod HeapRegisters
+pub mod HeapBlocks
+pub mod HeapReturns
+pub mod PairTurns
+pub mod Endings

@@ -1,6 +1,6 @@
 -- The notes of single turns of the symbol machine on the second program, with a block of 16 bytes.
 use Rattle.std.proofs.Common.{◌≡◌, refl}
-use Rattle.std.specs.Prelude.{ℕ, ⊤, Some, replicate, slice_set}
+use Rattle.std.specs.Prelude.{ℕ, ⊤, [], ◌∷◌, Some, replicate, slice_set}
 use Rattle.machine_spec.specs.declared.Ending.TheVariants.{Running}
 use Rattle.sym_value.specs.declared.Value.{Value}
 use Rattle.sym_value.specs.declared.Value.TheVariants.{Num, Ptr, Ret, Unset}
@@ -9,7 +9,8 @@ use Rattle.sym_spec.specs.declared.StepNote.{StepNote}
 use Rattle.sym_spec.specs.SymMachine.{SymMachine}
 use Rattle.sym_spec.specs.SymNotes.{empty_note, note}
 use Rattle.machine_examples.proofs.Files.{p3}
-use Rattle.machine_examples.proofs.Setup.{small_start, empty_plan}
+use Rattle.place_spec.specs.Layout.{first_layout}
+use Rattle.machine_examples.proofs.Setup.{small_start, empty_area, empty_plan}
 use Rattle.machine_examples.proofs.SymRuns.{sym_run_opened}
 
 unfoldable note_opened : ⊤
@@ -20,6 +21,8 @@ note_opened = tt
 abbrev at : ℕ → Value → Value → Value → Value → Value → Value → SymMachine
 at pc ra sp first buffer count number = record {
   memory = granted 1 (small_start p3);
+  layout = first_layout empty_area;
+  at = 0x16090 ∷ [];
   registers = slice_set (slice_set (slice_set
       (slice_set (slice_set (slice_set (replicate 32 (Num 0)) 1 ra) 2 sp) 10 first) 11
       buffer) 12 count) 17 number;

@@ -2,7 +2,9 @@
 use Rattle.std.specs.Prelude.{ℕ, ◌+◌, ◌*◌, List, [], ◌∷◌, ◌++◌, true, false, map, filter, replicate, if◌then◌else◌}
 use Rattle.elf_spec.specs.Memory.{is_loaded}
 use Rattle.elf_spec.specs.Records.{segments_of, e_entry}
+use Rattle.plan_core.specs.declared.types.Area.{Area}
 use Rattle.plan_core.specs.declared.types.Plan.{Plan}
+use Rattle.place_spec.specs.Layout.{first_layout}
 use Rattle.machine_spec.specs.declared.Ending.TheVariants.{Running}
 use Rattle.machine_spec.specs.Memory.{Range, range_of, byte_of}
 use Rattle.machine_spec.specs.Start.{start_registers}
@@ -48,11 +50,17 @@ small_start file = record {
   blocks = [];
 }
 
+-- the area without chunks and without a fallback
+abbrev pub empty_area : Area
+empty_area = record { chunks = 0; log_chunk = 0; fallback = 0 }
+
 -- the symbol machine that is about to run a file without input
 abbrev pub sym_start : List ℕ → SymState
 sym_start file = record {
   machine = record {
     memory = small_start file;
+    layout = first_layout empty_area;
+    at = [];
     registers = map (λ w. Num w) start_registers;
     pc = e_entry file;
     bits = 0;
@@ -64,13 +72,12 @@ sym_start file = record {
 
 -- the plan without sites
 abbrev pub empty_plan : Plan
-empty_plan = record { sites = []; rows = []; area = record { chunks = 0; log_chunk = 0; fallback = 0 } }
+empty_plan = record { sites = []; rows = []; area = empty_area }
 
 -- the plan with the site at 0x10100, whose bit is 0
 abbrev pub plan_p3 : Plan
 plan_p3 = record {
   sites = record { bit = 0; addr = 0x10100 } ∷ [];
   rows = [];
-  area =
-      record { chunks = 0; log_chunk = 0; fallback = 0 };
+  area = empty_area;
 }

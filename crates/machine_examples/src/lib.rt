@@ -1,3 +1,3 @@
-// Two small programs, run by computation: their new files and their runs on both machines, as theorems
-// in proofs/.
+// Three small programs, run by computation: their new files, their runs on both machines and single turns,
+// as theorems in proofs/.
 #![tactic(auto)]

@@ -1,19 +1,14 @@
 -- A new file keeps the behaviour of its source: for every input and bound n where the source meets no
 -- address fault within n turns, the new file's state after at least n and at most n * `turn_bound`
 -- turns matches.
-use Rattle.std.specs.Prelude.{ℕ, ◌+◌, ◌*◌, ◌<◌, ◌≤◌, List, All}
+use Rattle.std.specs.Prelude.{ℕ, ◌*◌, ◌<◌, ◌≤◌, List, All}
 use Rattle.plan_core.specs.declared.types.Plan.{Plan}
-use Rattle.plan_core.specs.declared.types.Area.{Area}
-use Rattle.plan_core.specs.Plan.{granules}
+use Rattle.heap_spec.specs.Service.{turn_bound}
 use Rattle.machine_spec.specs.declared.Ending.{Ending}
 use Rattle.machine_spec.specs.declared.Ending.TheVariants.{Running, Exit, Illegal, Fault}
 use Rattle.flat_spec.specs.Runs.{flat_run}
 use Rattle.sym_spec.specs.SymRuns.{sym_run}
 use Rattle.match_spec.specs.Matches.{Matches}
-
--- the most flat turns for one turn of the source
-abbrev pub turn_bound : Area → ℕ
-turn_bound area = 16384 + 256 * granules area
 
 abbrev pub IsNoFault : Ending → Type 0
 IsNoFault Running = Unit {0}

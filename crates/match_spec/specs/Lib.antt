@@ -3,3 +3,4 @@ pub mod Parts
 pub mod Matches
 pub mod Keeps
 pub mod Same
+pub mod Steps

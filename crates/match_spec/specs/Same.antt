@@ -3,9 +3,10 @@
 -- left and has ended alike after at least n and at most n * `turn_bound` turns.
 use Rattle.std.specs.Prelude.{◌≡◌, ℕ, ◌*◌, ◌<◌, ◌≤◌, List, All}
 use Rattle.plan_core.specs.declared.types.Plan.{Plan}
+use Rattle.heap_spec.specs.Service.{turn_bound}
 use Rattle.flat_spec.specs.Runs.{flat_run}
 use Rattle.sym_spec.specs.SymRuns.{sym_run}
-use Rattle.match_spec.specs.Keeps.{IsNoFault, turn_bound}
+use Rattle.match_spec.specs.Keeps.{IsNoFault}
 
 -- after so many turns the new file has written, has left of its input and has ended as its source after n
 pub record HasDoneTheSame (file : List ℕ) (plan : Plan) (new input : List ℕ) (n : ℕ) : Type 0 where

@@ -1,5 +1,5 @@
 -- Which words of the flat machine stand for which values of the symbol machine.
-use Rattle.std.specs.Prelude.{ℕ, ◌+◌, ◌^◌, ◌<◌, List, [], Option, Some, None}
+use Rattle.std.specs.Prelude.{ℕ, ◌+◌, ◌^◌, ◌<◌, List, Option, Some, None}
 use Rattle.plan_core.specs.declared.types.Plan.{Plan}
 use Rattle.site_spec.specs.Places.{text_at, stub_at}
 use Rattle.sym_value.specs.declared.Value.{Value}
@@ -21,9 +21,9 @@ pub record Places : Type 0 where
   pub back : ℕ → ℕ
   pub blocks : List ℕ
 
--- the places of a file under a plan: there are no blocks yet
-abbrev pub places_of : List ℕ → Plan → Places
-places_of file plan = record { back = back_of file plan; blocks = [] }
+-- the places of a file under a plan, with blocks at these addresses
+abbrev pub places_of : List ℕ → Plan → List ℕ → Places
+places_of file plan at = record { back = back_of file plan; blocks = at }
 
 -- a word that stands for a value of this run
 pub record Holds (places : Places) (v : Value) (w : ℕ) : Type 0 where

@@ -1,10 +1,11 @@
 -- The symbol machine between two turns, and the ways in which a step changes it.
-use Rattle.std.specs.Prelude.{ℕ, ◌-◌, ◌^◌, ◌==◌, List, Bool, false, Option, Some, None, is_some, find, position, map, if◌then◌else◌, slice_get, slice_index_or, slice_set, bit_and, bit_or, option_and_then}
+use Rattle.std.specs.Prelude.{ℕ, ◌-◌, ◌^◌, ◌==◌, List, [], Bool, false, Option, Some, None, is_some, find, position, map, if◌then◌else◌, slice_get, slice_index_or, slice_set, bit_and, bit_or, option_and_then}
 use Rattle.elf_spec.specs.Code.{code_word}
 use Rattle.elf_spec.specs.Memory.{image_end}
 use Rattle.elf_spec.specs.Records.{e_entry, segments_of}
 use Rattle.plan_core.specs.declared.types.Plan.{Plan}
 use Rattle.plan_core.specs.declared.types.PlanLine.{PlanLine}
+use Rattle.place_spec.specs.Layout.{Layout, first_layout}
 use Rattle.site_spec.specs.declared.Site.{Site}
 use Rattle.site_spec.specs.Sites.{site_at}
 use Rattle.machine_spec.specs.declared.Ending.{Ending}
@@ -18,9 +19,12 @@ use Rattle.sym_value.specs.Places.{Lives}
 use Rattle.sym_cells.specs.Memory.{Memory, live_of}
 use Rattle.sym_spec.specs.StartMemory.{start_memory}
 
--- it has 32 registers, and the bits of the chosen sites
+-- it has 32 registers, the bits of the chosen sites, the layout of the heap, and the address that each
+-- block got, by the blocks' names, which stays when the block dies
 pub record SymMachine : Type 0 where
   pub memory : Memory
+  pub layout : Layout
+  pub at : List ℕ
   pub registers : List Value
   pub pc : ℕ
   pub bits : ℕ
@@ -110,10 +114,12 @@ goes_back file plan back m = record m {
   bits = clear_bit (option_and_then (slice_get plan.sites) (back_index file plan.sites back)) m.bits;
 }
 
--- the machine that is about to run a file
-unfoldable pub start : List ℕ → SymMachine
-start file = record {
+-- the machine that is about to run a file under a plan
+unfoldable pub start : List ℕ → Plan → SymMachine
+start file plan = record {
   memory = start_memory file;
+  layout = first_layout plan.area;
+  at = [];
   registers = map (λ w. Num w) start_registers;
   pc = e_entry file;
   bits = 0;

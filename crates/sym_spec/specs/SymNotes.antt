@@ -1,6 +1,6 @@
 -- What a turn of the symbol machine does besides, as far as contexts and accesses go, from the machine
 -- before it. A turn without an effect of its own, as one of an ended machine or one that faults, has no
--- part. Heap functions, which grant and release, have no actions of their own yet.
+-- part. The turn of a heap function has its grant, its release and its way back, and no access.
 use Rattle.std.specs.Prelude.{ℕ, ◌==◌, [], List, Bool, true, false, ◌||◌, Option, Some, None, option_map, if◌then◌else◌}
 use Rattle.rv_isa.specs.declared.Instr.{Instr}
 use Rattle.rv_isa.specs.declared.Instr.TheVariants.{Jalr, Load, Store, Ecall}
@@ -17,7 +17,8 @@ use Rattle.sym_spec.specs.declared.BlockAccess.{BlockAccess}
 use Rattle.sym_spec.specs.declared.StepNote.{StepNote}
 use Rattle.sym_spec.specs.SymMachine.{SymMachine, value_of}
 use Rattle.sym_spec.specs.SymCalls.{word_in}
-use Rattle.sym_spec.specs.SymTurns.{Here, Nothing, Pair, Code, here, address_of, turn}
+use Rattle.sym_spec.specs.HeapActions.{Outcome, outcome}
+use Rattle.sym_spec.specs.SymTurns.{Here, Nothing, Heap, Pair, Code, here, address_of, turn}
 
 abbrev pub empty_note : StepNote
 empty_note = record { call = None; back = None; grant = None; release = None; access = None }
@@ -66,10 +67,16 @@ instr_note file (Some i) m = record empty_note {
 }
 instr_note file None m = empty_note
 
-abbrev pub here_note : List ℕ → Here → SymMachine → StepNote
-here_note file Nothing m = empty_note
-here_note file (Pair s) m = record empty_note { call = Some m.pc }
-here_note file (Code w) m = instr_note file (decoded w) m
+-- the note of a heap function that doesn't fault
+abbrev pub heap_note : Option Outcome → SymMachine → StepNote
+heap_note (Some o) m = record empty_note { back = return_in (value_of m 1); grant = o.grant; release = o.release }
+heap_note None m = empty_note
+
+abbrev pub here_note : List ℕ → Plan → Here → SymMachine → StepNote
+here_note file plan Nothing m = empty_note
+here_note file plan (Heap name) m = heap_note (outcome file plan name m) m
+here_note file plan (Pair s) m = record empty_note { call = Some m.pc }
+here_note file plan (Code w) m = instr_note file (decoded w) m
 
 abbrev pub is_fault : Ending → Bool
 is_fault Running = false
@@ -79,7 +86,7 @@ is_fault (Fault kind at) = true
 
 abbrev pub ending_note : List ℕ → Plan → Ending → SymMachine → StepNote
 ending_note file plan Running m =
-    if is_fault (turn file plan [] m).next.ending then empty_note else here_note file (here file m.pc) m
+    if is_fault (turn file plan [] m).next.ending then empty_note else here_note file plan (here file m.pc) m
 ending_note file plan ending m = empty_note
 
 -- the note of the turn; whether it faults doesn't depend on the input

@@ -1,5 +1,4 @@
--- Runs of the symbol machine: so many turns of an executable under a plan, on an input. Heap functions have
--- no actions of their own yet: for a file with heap functions a run isn't yet what it will be.
+-- Runs of the symbol machine: so many turns of an executable under a plan, on an input.
 use Rattle.std.specs.Prelude.{ℕ, zero, suc, List, [], ◌++◌}
 use Rattle.plan_core.specs.declared.types.Plan.{Plan}
 use Rattle.sym_spec.specs.SymMachine.{SymMachine, start}
@@ -24,4 +23,4 @@ steps file plan (suc n) s = step file plan (steps file plan n s)
 
 -- the state after n turns from the start
 unfoldable pub sym_run : List ℕ → Plan → List ℕ → ℕ → SymState
-sym_run file plan input n = steps file plan n (record { machine = start file; input = input; output = [] })
+sym_run file plan input n = steps file plan n (record { machine = start file plan; input = input; output = [] })

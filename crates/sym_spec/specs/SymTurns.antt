@@ -1,10 +1,12 @@
--- One turn of the symbol machine: one instruction, or the call of a pair site, or an ending.
+-- One turn of the symbol machine: one instruction, or the call of a pair site, or the whole action of a
+-- heap function, or an ending.
 use Rattle.std.specs.Prelude.{ℕ, ◌+◌, ◌-◌, ◌*◌, ◌/◌, ◌==◌, List, Bool, true, false, ◌&&◌, ◌||◌, Option, Some, None, nat_le, if◌then◌else◌}
 use Rattle.std.specs.List.{list_any}
 use Rattle.rv_isa.specs.declared.Instr.{Instr}
 use Rattle.rv_isa.specs.declared.Instr.TheVariants.{Lui, Auipc, Jal, Jalr, Branch, Load, Store, OpImm, Reg, Fence, Ecall, Ebreak}
 use Rattle.rv_isa.specs.declared.Op.TheVariants.{Add}
 use Rattle.rv_isa.specs.Table.{decoded}
+use Rattle.elf_spec.specs.declared.HeapName.{HeapName}
 use Rattle.elf_spec.specs.Code.{code_word}
 use Rattle.elf_spec.specs.Heap.{heap_entries}
 use Rattle.plan_core.specs.declared.types.Plan.{Plan}
@@ -22,6 +24,7 @@ use Rattle.sym_cells.specs.Memory.{loaded, stored}
 use Rattle.sym_spec.specs.Plain.{is_plain, is_plain_store}
 use Rattle.sym_spec.specs.SymMachine.{SymMachine, lives_of, value_of, gives, passes, ends, faults, loads, stores, goes_to, jumps, calls_from, goes_back}
 use Rattle.sym_spec.specs.SymCalls.{SymTurn, quiet, calls}
+use Rattle.sym_spec.specs.HeapActions.{function_at, serves}
 
 -- the address of a load or a store
 abbrev pub address_of : List ℕ → SymMachine → ℕ → ℕ → Value
@@ -56,9 +59,11 @@ acts file plan (Fence rest) m = passes m
 acts file plan Ecall m = m
 acts file plan Ebreak m = ends (Illegal m.pc) m
 
--- what stands at an address: nothing that can be fetched, the call of a pair site, or a code word
+-- what stands at an address: nothing that can be fetched, a heap function, the call of a pair site, or a
+-- code word
 pub data Here : Type 0 where
   Nothing : Here
+  Heap : (name : HeapName) → Here
   Pair : (site : Site) → Here
   Code : (word : ℕ) → Here
 
@@ -71,13 +76,15 @@ abbrev pub is_second : List ℕ → ℕ → Bool
 is_second file a =
     (nat_le 4 a && is_pair (site_at file (a - 4))) || list_any (λ e. e + 4 == a) (heap_entries file)
 
-abbrev pub here_with : Option ℕ → Option Site → Here
-here_with (Some w) (Some s) = if s.pair then Pair s else Code w
-here_with (Some w) None = Code w
-here_with None s = Nothing
+abbrev pub here_with : Option ℕ → Option HeapName → Option Site → Here
+here_with (Some w) (Some name) s = Heap name
+here_with (Some w) None (Some s) = if s.pair then Pair s else Code w
+here_with (Some w) None None = Code w
+here_with None name s = Nothing
 
 unfoldable pub here : List ℕ → ℕ → Here
-here file a = if is_second file a then Nothing else here_with (code_word file a) (site_at file a)
+here file a =
+    if is_second file a then Nothing else here_with (code_word file a) (function_at file a) (site_at file a)
 
 -- the turn of an instruction; a word without one ends the run as illegal
 abbrev pub executes : List ℕ → Plan → List ℕ → Option Instr → SymMachine → SymTurn
@@ -87,6 +94,7 @@ executes file plan input None m = quiet input (ends (Illegal m.pc) m)
 
 abbrev pub runs_here : List ℕ → Plan → List ℕ → Here → SymMachine → SymTurn
 runs_here file plan input Nothing m = quiet input (faults F6 m)
+runs_here file plan input (Heap name) m = quiet input (serves file plan name m)
 runs_here file plan input (Pair s) m = quiet input (record (calls_from plan s.back m) { pc = s.target })
 runs_here file plan input (Code w) m = executes file plan input (decoded w) m
 
