@@ -1,0 +1,6 @@
+mod Items
+mod Placing
+mod Releasing
+mod Tables
+mod Standing
+mod Regions
