@@ -83,7 +83,7 @@ back_words file plan new g a is = (back_small file plan new a g is).0
 
 load_alike : (file : List ℕ) (plan : Plan) (new : List ℕ) (s : SymMachine) (m : Machine) (width : Width) (rd : ℕ)
     (at : Value) (a : ℕ) → Ground file plan new
-    → InStep file plan new s m → rd < 32 → rd ≢ 4 → Holds (places_of file plan) at a
+    → InStep file plan new s m → rd < 32 → rd ≢ 4 → Holds (places_of file plan s.at) at a
     → IsNoFault (loads rd (loaded (is_plain file) s.memory width at) s).ending
     → InStep file plan new (loads rd (loaded (is_plain file) s.memory width at) s)
     (flat_machine.loads rd (flat_memory.loaded m.memory width a) m)
@@ -93,15 +93,15 @@ load_alike file plan new s m width rd at a g h small other holds safe =
     by_value : (o : Option Value) → loaded (is_plain file) s.memory width at ≡ o → IsNoFault (loads rd o s).ending
         → InStep file plan new (loads rd o s) (flat_machine.loads rd (flat_memory.loaded m.memory width a) m)
     by_value (Some v) e safe =
-        let alike : LoadsAlike (places_of file plan) m.memory width a v =
-        loads_alike file new (places_of file plan) s.memory m.memory width at v a g.laws
+        let alike : LoadsAlike (places_of file plan s.at) m.memory width a v =
+        loads_alike file new (places_of file plan s.at) s.memory m.memory width at v a g.laws
         (back_words file plan new g) h.memory holds e in
         rw alike.there (gives_alike file plan new s m rd v alike.word h small other alike.holds)
     by_value None e safe = absurd safe
 
 branches_alike : (file : List ℕ) (plan : Plan) (new : List ℕ) (s : SymMachine) (m : Machine) (condition : Cond)
     (x y : Value) (v w target : ℕ) → Ground file plan new
-    → InStep file plan new s m → Holds (places_of file plan) x v → Holds (places_of file plan) y w
+    → InStep file plan new s m → Holds (places_of file plan s.at) x v → Holds (places_of file plan s.at) y w
     → IsNoFault (branches file (decide (lives_of file s) condition x y) target s).ending
     → InStep file plan new (branches file (decide (lives_of file s) condition x y) target s)
     (cond (is_held condition v w) (flat_machine.jumps 0 target m) (flat_machine.passes m))
@@ -109,7 +109,7 @@ branches_alike file plan new s m condition x y v w target g h first second safe 
     at (decide (lives_of file s) condition x y) refl safe
   where
     is : (b : Bool) → decide (lives_of file s) condition x y ≡ Some b → is_held condition v w ≡ b
-    is b e = decide_holds (places_of file plan)
+    is b e = decide_holds (places_of file plan s.at)
         (lives_of file s) condition x y v w b g.laws h.memory.laid.placed first second e
 
     at : (o : Option Bool) → decide (lives_of file s) condition x y ≡ o → IsNoFault (branches file o target s).ending
@@ -127,30 +127,31 @@ pub acts_alike : (file : List ℕ) (plan : Plan) (new : List ℕ) (s : SymMachin
 unfolding acts flat.acts
 acts_alike file plan new s m w i g h run code none n r p safe = at i n r p safe
   where
-    holds : (r : ℕ) → r < 32 → r ≢ 4 → Holds (places_of file plan) (value_of s r) (register m r)
+    holds : (r : ℕ) → r < 32 → r ≢ 4 → Holds (places_of file plan s.at) (value_of s r) (register m r)
     holds r small other = h.registers.holds r small other
 
-    applied : (op : Op) (x y : Value) (v w : ℕ) → Holds (places_of file plan) x v → Holds (places_of file plan) y w
-        → Holds (places_of file plan) (apply (lives_of file s) op x y) (computed op v w)
-    applied op x y v w first second = apply_holds (places_of file plan)
+    applied : (op : Op) (x y : Value) (v w : ℕ) → Holds (places_of file plan s.at) x v
+        → Holds (places_of file plan s.at) y w
+        → Holds (places_of file plan s.at) (apply (lives_of file s) op x y) (computed op v w)
+    applied op x y v w first second = apply_holds (places_of file plan s.at)
         (lives_of file s) op x y v w g.laws h.memory.laid.placed first second
 
     address : (rs1 imm : ℕ) → rs1 < 32 → rs1 ≢ 4 → imm < 2 ^ 32
-        → Holds (places_of file plan) (address_of file s rs1 imm) (plus (register m rs1) imm)
+        → Holds (places_of file plan s.at) (address_of file s rs1 imm) (plus (register m rs1) imm)
     address rs1 imm small other word =
-        subst (λ x. Holds (places_of file plan) (address_of file s rs1 imm) x) (sum_is (register m rs1) imm)
+        subst (λ x. Holds (places_of file plan s.at) (address_of file s rs1 imm) x) (sum_is (register m rs1) imm)
         (applied Add (value_of s rs1) (Num imm) (register m rs1) imm (holds rs1 small other)
-        (holds_num (places_of file plan) imm word))
+        (holds_num (places_of file plan s.at) imm word))
 
     at : (i : Instr) → names_register i 4 ≡ false → IsFormed i → IsPlainInstr i → IsNoFault (acts file plan i s).ending
         → InStep file plan new (acts file plan i s) (flat.acts i m)
     at (Lui rd imm) n r p safe = gives_alike file plan new s m rd (Num imm) imm h r.0 (unequal rd 4 n)
-        (holds_num (places_of file plan) imm r.1)
+        (holds_num (places_of file plan s.at) imm r.1)
     at (Auipc rd imm) n r p safe =
         subst (λ x. InStep file plan new (gives rd (Num (plus s.pc imm)) s) (flat_machine.gives rd (plus x imm) m))
         (sym h.pc)
         (gives_alike file plan new s m rd (Num (plus s.pc imm)) (plus s.pc imm) h r.0 (unequal rd 4 n)
-        (holds_num (places_of file plan) (plus s.pc imm) (omega arith)))
+        (holds_num (places_of file plan s.at) (plus s.pc imm) (omega arith)))
     at (Jal rd imm) n r p safe =
         subst (λ x. InStep file plan new (jumps file plan rd (plus s.pc imm) s)
         (flat_machine.jumps rd (plus x imm) m)) (sym h.pc)
@@ -180,7 +181,7 @@ acts_alike file plan new s m w i g h run code none n r p safe = at i n r p safe
         gives_alike file plan new s m rd (apply (lives_of file s) op (value_of s rs1) (Num imm))
         (computed op (register m rs1) imm) h r.0 (unequal rd 4 others.0)
         (applied op (value_of s rs1) (Num imm) (register m rs1) imm (holds rs1 r.1 (unequal rs1 4 others.1))
-        (holds_num (places_of file plan) imm (operand_small op imm r.2)))
+        (holds_num (places_of file plan s.at) imm (operand_small op imm r.2)))
     at (Reg op rd rs1 rs2) n r p safe =
         let others : ((nat_eq rd 4 || nat_eq rs1 4) ≡ false) × (nat_eq rs2 4 ≡ false) =
         neither (nat_eq rd 4 || nat_eq rs1 4) (nat_eq rs2 4) n in

@@ -13,13 +13,12 @@ use Rattle.elf_spec.specs.Code.{code_word}
 use Rattle.plan_core.specs.declared.types.Plan.{Plan}
 use Rattle.plan_core.specs.declared.types.PlanLine.{PlanLine}
 use Rattle.site_spec.specs.declared.Site.{Site}
-use Rattle.site_spec.specs.Places.{text_at}
+use Rattle.site_spec.specs.Places.{text_at, text_room}
 use Rattle.site_spec.specs.Sites.{site_at}
 use Rattle.sym_spec.specs.SymMachine.{back_index, is_back, line_at}
 use Rattle.sym_spec.specs.SymTurns.{is_second}
 use Rattle.sym_value.specs.Standing.{IsReturn}
 use Rattle.match_spec.specs.Stands.{back_of, back_in}
-use Rattle.match_spec.specs.Parts.{text_room}
 use Rattle.simulation.specs.Ground.{Ground, IsJalSite, IsPairSite, IsUnchosen}
 
 -- the site line whose call comes back to an address

@@ -30,6 +30,7 @@ use Rattle.match_spec.specs.Matches.{InStep}
 use Rattle.match_spec.specs.Keeps.{IsNoFault}
 use Rattle.simulation.specs.Ground.{Ground}
 use Rattle.simulation.proofs.InMemory.{puts_memory}
+use Rattle.simulation.proofs.InHeap.{puts_heap}
 use Rattle.simulation.proofs.Operations.{holds_num}
 use Rattle.simulation.proofs.Stepping.{gives_alike}
 
@@ -46,13 +47,15 @@ quiet_alike file plan new input s m h = record { next = h; left = refl; written 
 pub ends_alike : (file : List ℕ) (plan : Plan) (new : List ℕ) (s : SymMachine) (m : Machine) (e : Ending)
     → InStep file plan new s m
     → InStep file plan new (ends e s) (flat_machine.ends e m)
-ends_alike file plan new s m e h = record { pc = h.pc; ending = refl; registers = h.registers; memory = h.memory }
+ends_alike file plan new s m e h =
+    record { pc = h.pc; ending = refl; registers = h.registers; memory = h.memory; heap = h.heap }
 
 answers_alike : (file : List ℕ) (plan : Plan) (new : List ℕ) (s : SymMachine) (m : Machine) (v : ℕ) → v < 2 ^ 32
     → InStep file plan new s m
     → InStep file plan new (answers v s) (flat.answers v m)
 answers_alike file plan new s m v small h =
-    gives_alike file plan new s m 10 (Num v) v h (omega arith) (omega arith) (holds_num (places_of file plan) v small)
+    gives_alike file plan new s m 10 (Num v) v h (omega arith) (omega arith)
+    (holds_num (places_of file plan s.at) v small)
 
 -- the word that a register holds is the flat machine's
 decided : (places : Places) (v : Value) (w n : ℕ) → Holds places v w → word_in v ≡ Some n → w ≡ n
@@ -75,7 +78,7 @@ pointed Unset p e = absurd (cc)
 -- a read to a buffer
 read_at : (file : List ℕ) (plan : Plan) (new input : List ℕ) (s : SymMachine) (m : Machine) (p : Value) (a n : ℕ)
     → Ground file plan new → All (λ b. b < 256) input → InStep file plan new s m
-    → n < 2 ^ 32 → Holds (places_of file plan) p a → register m 11 ≡ a → register m 12 ≡ n
+    → n < 2 ^ 32 → Holds (places_of file plan s.at) p a → register m 11 ≡ a → register m 12 ≡ n
     → IsNoFault (reads_to file input n (Some p) s).next.ending
     → TurnsAlike file plan new (reads_to file input n (Some p) s) (flat.reads input m)
 read_at file plan new input s m p a n g bytes h small to ea en safe =
@@ -96,9 +99,9 @@ read_at file plan new input s m p a n g bytes h small to ea en safe =
     at (Some after) e safe =
         let le : length (take n input) ≤ n = omega (arith, length-take n input) in
         let piece : All (λ b. b < 256) (take n input) = All-take (λ b. b < 256) n input bytes in
-        let alike : FillsAlike (back_of file plan) [] (image_end (segments_of file)) (is_plain file)
+        let alike : FillsAlike (back_of file plan) s.at (image_end (segments_of file)) (is_plain file)
         (is_plain_store file) m.memory s.memory after n a (take n input) =
-        g.laws.reads (back_of file plan) [] (image_end (segments_of file)) (is_plain file)
+        g.laws.reads (back_of file plan) s.at (image_end (segments_of file)) (is_plain file)
         (is_plain_store file) m.memory s.memory after n (take n input) p a
         h.memory.laid h.memory.stands to.is piece le e in
         rw alike.there (record {
@@ -108,8 +111,10 @@ read_at file plan new input s m p a n g bytes h small to ea en safe =
                 pc = h.pc;
                 ending = h.ending;
                 registers = h.registers;
-                memory = puts_memory file new (places_of file plan) s.memory after m.memory a
+                memory = puts_memory file new (places_of file plan s.at) s.memory after m.memory a
                     (take n input) g.memory h.memory piece alike.stands alike.laid alike.lives alike.went;
+                heap = puts_heap file plan new s.layout s.at s.memory after m.memory a (take n input) g h.memory
+                    h.heap alike.lives alike.went;
               });
           left = refl;
           written = refl;
@@ -132,7 +137,7 @@ read_none file plan new input s m h e = rw (e, nothing_stored file s.memory) (re
 -- a write of the bytes of a buffer
 write_at : (file : List ℕ) (plan : Plan) (new input : List ℕ) (s : SymMachine) (m : Machine) (p : Value) (a n : ℕ)
     → Ground file plan new → InStep file plan new s m
-    → n < 2 ^ 32 → Holds (places_of file plan) p a → register m 11 ≡ a → register m 12 ≡ n
+    → n < 2 ^ 32 → Holds (places_of file plan s.at) p a → register m 11 ≡ a → register m 12 ≡ n
     → IsNoFault (writes_from file input n (Some p) s).next.ending
     → TurnsAlike file plan new (writes_from file input n (Some p) s)
     (flat.writes input (bytes_from m.memory (register m 11) (register m 12)) m)
@@ -144,7 +149,7 @@ write_at file plan new input s m p a n g h small to ea en safe =
         → TurnsAlike file plan new (writes_known input n o s) (flat.writes input (bytes_from m.memory a n) m)
     known within (Some bytes) e safe =
         let read : bytes_from m.memory a n ≡ Some bytes =
-        g.laws.writes (back_of file plan) [] (image_end (segments_of file)) (is_plain file)
+        g.laws.writes (back_of file plan) s.at (image_end (segments_of file)) (is_plain file)
         (is_plain_store file) m.memory s.memory n p a bytes
         h.memory.laid h.memory.stands to.is within e in
         rw read (rw en (record {
@@ -180,7 +185,7 @@ write_none file plan new input s m h e =
 -- a read, and a write, whose buffer is used only where its length isn't 0
 read_alike : (file : List ℕ) (plan : Plan) (new input : List ℕ) (s : SymMachine) (m : Machine) (n : ℕ)
     → Ground file plan new → All (λ b. b < 256) input → InStep file plan new s m
-    → Holds (places_of file plan) (value_of s 11) (register m 11) → n < 2 ^ 32 → register m 12 ≡ n
+    → Holds (places_of file plan s.at) (value_of s 11) (register m 11) → n < 2 ^ 32 → register m 12 ≡ n
     → IsNoFault (reads_to file input n (buffer_in n (value_of s 11)) s).next.ending
     → TurnsAlike file plan new (reads_to file input n (buffer_in n (value_of s 11)) s) (flat.reads input m)
 read_alike file plan new input s m n g bytes h holds small en safe = at (nat_eq n 0) refl safe
@@ -188,7 +193,8 @@ read_alike file plan new input s m n g bytes h holds small en safe = at (nat_eq 
     buffer : (o : Option Value) → pointer_in (value_of s 11) ≡ o → IsNoFault (reads_to file input n o s).next.ending
         → TurnsAlike file plan new (reads_to file input n o s) (flat.reads input m)
     buffer (Some p) e safe = read_at file plan new input s m p (register m 11) n g bytes h small
-        (subst (λ v. Holds (places_of file plan) v (register m 11)) (pointed (value_of s 11) p e) holds) refl en safe
+        (subst (λ v. Holds (places_of file plan s.at) v (register m 11)) (pointed (value_of s 11) p e) holds) refl en
+        safe
     buffer None e safe = absurd safe
 
     at : (t : Bool) → nat_eq n 0 ≡ t → IsNoFault
@@ -201,7 +207,7 @@ read_alike file plan new input s m n g bytes h holds small en safe = at (nat_eq 
 
 write_alike : (file : List ℕ) (plan : Plan) (new input : List ℕ) (s : SymMachine) (m : Machine) (n : ℕ)
     → Ground file plan new → InStep file plan new s m
-    → Holds (places_of file plan) (value_of s 11) (register m 11) → n < 2 ^ 32 → register m 12 ≡ n
+    → Holds (places_of file plan s.at) (value_of s 11) (register m 11) → n < 2 ^ 32 → register m 12 ≡ n
     → IsNoFault (writes_from file input n (buffer_in n (value_of s 11)) s).next.ending
     → TurnsAlike file plan new (writes_from file input n (buffer_in n (value_of s 11)) s)
     (flat.writes input (bytes_from m.memory (register m 11) (register m 12)) m)
@@ -211,7 +217,8 @@ write_alike file plan new input s m n g h holds small en safe = at (nat_eq n 0) 
         → TurnsAlike file plan new (writes_from file input n o s)
         (flat.writes input (bytes_from m.memory (register m 11) (register m 12)) m)
     buffer (Some p) e safe = write_at file plan new input s m p (register m 11) n g h small
-        (subst (λ v. Holds (places_of file plan) v (register m 11)) (pointed (value_of s 11) p e) holds) refl en safe
+        (subst (λ v. Holds (places_of file plan s.at) v (register m 11)) (pointed (value_of s 11) p e) holds) refl en
+        safe
     buffer None e safe = absurd safe
 
     at : (t : Bool) → nat_eq n 0 ≡ t → IsNoFault
@@ -231,9 +238,9 @@ reads_alike file plan new input s m g bytes h safe = at (word_in (value_of s 12)
     at : (o : Option ℕ) → word_in (value_of s 12) ≡ o → IsNoFault (reads file input o s).next.ending
         → TurnsAlike file plan new (reads file input o s) (flat.reads input m)
     at (Some n) e safe =
-        let count : Holds (places_of file plan) (value_of s 12) (register m 12) =
+        let count : Holds (places_of file plan s.at) (value_of s 12) (register m 12) =
         h.registers.holds 12 (omega arith) (omega arith) in
-        let is : register m 12 ≡ n = decided (places_of file plan) (value_of s 12) (register m 12) n count e in
+        let is : register m 12 ≡ n = decided (places_of file plan s.at) (value_of s 12) (register m 12) n count e in
         read_alike file plan new input s m n g bytes h (h.registers.holds 11 (omega arith) (omega arith))
         (subst (λ z. z < 2 ^ 32) is count.small) is safe
     at None e safe = absurd safe
@@ -249,9 +256,9 @@ writes_alike file plan new input s m g h safe = at (word_in (value_of s 12)) ref
         → TurnsAlike file plan new (writes file input o s)
         (flat.writes input (bytes_from m.memory (register m 11) (register m 12)) m)
     at (Some n) e safe =
-        let count : Holds (places_of file plan) (value_of s 12) (register m 12) =
+        let count : Holds (places_of file plan s.at) (value_of s 12) (register m 12) =
         h.registers.holds 12 (omega arith) (omega arith) in
-        let is : register m 12 ≡ n = decided (places_of file plan) (value_of s 12) (register m 12) n count e in
+        let is : register m 12 ≡ n = decided (places_of file plan s.at) (value_of s 12) (register m 12) n count e in
         write_alike file plan new input s m n g h (h.registers.holds 11 (omega arith) (omega arith))
         (subst (λ z. z < 2 ^ 32) is count.small) is safe
     at None e safe = absurd safe
@@ -264,7 +271,7 @@ with_alike : (file : List ℕ) (plan : Plan) (new input : List ℕ) (s : SymMach
 with_alike file plan new input s m call g bytes h safe = at call (word_in (value_of s 10)) refl safe
   where
     first : (n : ℕ) → word_in (value_of s 10) ≡ Some n → register m 10 ≡ n
-    first n e = decided (places_of file plan) (value_of s 10) (register m 10) n
+    first n e = decided (places_of file plan s.at) (value_of s 10) (register m 10) n
         (h.registers.holds 10 (omega arith) (omega arith)) e
 
     bad : TurnsAlike file plan new (quiet input (answers bad_descriptor s))
@@ -316,7 +323,7 @@ calls_alike file plan new input s m g bytes h safe = at (word_in (value_of s 17)
     at : (o : Option ℕ) → word_in (value_of s 17) ≡ o → IsNoFault (calls_by file input o s).next.ending
         → TurnsAlike file plan new (calls_by file input o s) (flat.calls_by (call_of (register m 17)) input m)
     at (Some number) e safe =
-        let same : register m 17 ≡ number = decided (places_of file plan) (value_of s 17) (register m 17) number
+        let same : register m 17 ≡ number = decided (places_of file plan s.at) (value_of s 17) (register m 17) number
         (h.registers.holds 17 (omega arith) (omega arith)) e in
         rw same (with_alike file plan new input s m (call_of number) g bytes h safe)
     at None e safe = absurd safe

@@ -6,7 +6,7 @@ use Rattle.std.proofs.lemmas.Bool.{cases_lt, eqb-true, eqb-false}
 use Rattle.std.proofs.lemmas.List.Elements.{All-head, All-tail}
 use Rattle.elf_spec.specs.Memory.{image_end}
 use Rattle.elf_spec.specs.Records.{segments_of}
-use Rattle.site_spec.specs.Places.{text_at}
+use Rattle.site_spec.specs.Places.{text_at, text_room}
 use Rattle.machine_spec.specs.Memory.{Range, range_at, byte_of}
 use Rattle.flat_spec.specs.Stores.{allows_store, put_byte, put_bytes}
 use Rattle.flat_spec.proofs.Memories.{put_byte_shape, put_there, put_elsewhere, same_there}
@@ -15,7 +15,7 @@ use Rattle.sym_cells.specs.Memory.{Memory, life_of}
 use Rattle.sym_cells.specs.Region.{InBlock, Laid, IsThere, MemoryStands}
 use Rattle.sym_spec.specs.Plain.{is_plain, is_plain_store, is_code_byte}
 use Rattle.match_spec.specs.Stands.{Places}
-use Rattle.match_spec.specs.Parts.{InMemory, text_room}
+use Rattle.match_spec.specs.Parts.{InMemory}
 use Rattle.simulation.specs.Ground.{MemoryGround}
 
 -- an address where a store may go: one that can be stored to, or one in a living block
@@ -59,7 +59,7 @@ not_text file new places m memory a x g h reached low high = by_place reached
     by_place (inr block) = let above = h.block_apart a block in omega (arith, above)
 
 -- an address that isn't among n from a on
-outside : (x a n : ℕ) → (a ≤ x → x < a + n → ⊥) → (x < a) ⊎ (a + n ≤ x)
+pub outside : (x a n : ℕ) → (a ≤ x → x < a + n → ⊥) → (x < a) ⊎ (a + n ≤ x)
 outside x a n never = ⊎_elim (λ (l : x < a). inl l) (λ (r : a ≤ x). ⊎_elim (λ (s : x < a + n). absurd (never r s)) (λ
     (t : a + n ≤ x). inr t) (cases_lt x (a + n))) (cases_lt x a)
 

@@ -16,7 +16,7 @@ use Rattle.sym_cells.specs.Buffers.{is_within, taken, filled}
 use Rattle.sym_spec.specs.Plain.{is_plain, is_plain_store}
 use Rattle.sym_spec.specs.SymMachine.{SymMachine, value_of}
 use Rattle.sym_spec.specs.SymCalls.{SymTurn, buffer_in, calls, calls_by, calls_with, reads, reads_into, reads_to, word_in, writes, writes_from, writes_known}
-use Rattle.sym_spec.specs.SymTurns.{Here, Nothing, Pair, Code, executes, here, runs_here, turn, turn_of}
+use Rattle.sym_spec.specs.SymTurns.{Here, Nothing, Heap, Pair, Code, executes, here, runs_here, turn, turn_of}
 
 abbrev AreBytes : List ℕ → Type 0
 AreBytes bs = All (λ b. b < 256) bs
@@ -82,6 +82,7 @@ executed_left file plan input (Some i) m h = h
 here_left : (file : List ℕ) (plan : Plan) (input : List ℕ) (x : Here) (m : SymMachine) → AreBytes input
     → AreBytes (runs_here file plan input x m).left
 here_left file plan input Nothing m h = h
+here_left file plan input (Heap name) m h = h
 here_left file plan input (Pair s) m h = h
 here_left file plan input (Code w) m h = executed_left file plan input (decoded w) m h
 

@@ -6,16 +6,16 @@ use Rattle.std.proofs.lemmas.Bool.Decides.{nat_tests}
 use Rattle.elf_spec.specs.Code.{code_word}
 use Rattle.plan_core.specs.declared.types.Plan.{Plan}
 use Rattle.rv_isa.specs.Addresses.{plus}
-use Rattle.site_spec.specs.Places.{text_at}
+use Rattle.site_spec.specs.Places.{text_at, text_room}
 use Rattle.machine_spec.specs.declared.FaultKind.TheVariants.{F3}
 use Rattle.machine_spec.specs.Start.{behind}
 use Rattle.flat_spec.specs.Machine as flat
 use Rattle.flat_spec.specs.Machine.{Machine, register}
 use Rattle.sym_value.specs.declared.Value.TheVariants.{Num, Ret}
-use Rattle.sym_spec.specs.SymMachine.{SymMachine, faults, links, goes_to, jumps, goes_back, line_at, set_bit, back_index}
+use Rattle.sym_spec.specs.SymMachine.{SymMachine, faults, links, calls_from, goes_to, jumps, goes_back, line_at, set_bit, back_index}
 use Rattle.sym_value.specs.Standing.{IsReturn}
 use Rattle.match_spec.specs.Stands.{back_of, places_of}
-use Rattle.match_spec.specs.Parts.{InRegisters, text_room}
+use Rattle.match_spec.specs.Parts.{InRegisters}
 use Rattle.match_spec.specs.Matches.{InStep}
 use Rattle.match_spec.specs.Keeps.{IsNoFault}
 use Rattle.simulation.specs.Ground.{Ground, IsUnchosen}
@@ -35,7 +35,7 @@ behind_code file plan new a w g e =
 pub links_alike : (file : List ℕ) (plan : Plan) (new : List ℕ) (s : SymMachine) (m : Machine) (w r : ℕ)
     → Ground file plan new → InStep file plan new s m
     → code_word file s.pc ≡ Some w → IsUnchosen file plan s.pc → r < 32 → r ≢ 4
-    → InRegisters (places_of file plan) (links plan r s).registers (slice_set m.registers r (behind m.pc))
+    → InRegisters (places_of file plan s.at) (links plan r s).registers (slice_set m.registers r (behind m.pc))
     (links plan r s).bits
 links_alike file plan new s m w r g h code none small other = rw h.pc (at (nat_eq r 1) refl)
   where
@@ -43,7 +43,7 @@ links_alike file plan new s m w r g h code none small other = rw h.pc (at (nat_e
     next = behind_code file plan new s.pc w g code
 
     at : (t : Bool) → nat_eq r 1 ≡ t
-        → InRegisters (places_of file plan)
+        → InRegisters (places_of file plan s.at)
         (cond t (record s {
           registers = slice_set s.registers 1 (Ret (behind s.pc));
           bits =
@@ -63,12 +63,12 @@ links_alike file plan new s m w r g h code none small other = rw h.pc (at (nat_e
         let room : text_at file + text_room ≤ 0x7FF00000 = g.memory.low_text in
         let aligned : s.pc % 4 ≡ 0 = g.aligned s.pc w code in
         let is : IsReturn (s.pc + 4) = (omega (arith, low, room), omega (arith, aligned)) in
-        rw (ra, none.none, next) (put_register (places_of file plan) s.registers m.registers s.bits 1 (Ret (s.pc + 4))
-        (s.pc + 4) h.registers (omega arith) (omega arith)
-        (holds_ret (places_of file plan) (s.pc + 4) (s.pc + 4) is (back_same file plan new s.pc g none)
+        rw (ra, none.none, next) (put_register (places_of file plan s.at) s.registers m.registers s.bits 1
+        (Ret (s.pc + 4)) (s.pc + 4) h.registers (omega arith) (omega arith)
+        (holds_ret (places_of file plan s.at) (s.pc + 4) (s.pc + 4) is (back_same file plan new s.pc g none)
         (omega (arith, low, room))))
-    at false e = put_register (places_of file plan) s.registers m.registers s.bits r (Num (behind s.pc))
-        (behind s.pc) h.registers small other (holds_num (places_of file plan) (behind s.pc) (omega arith))
+    at false e = put_register (places_of file plan s.at) s.registers m.registers s.bits r (Num (behind s.pc))
+        (behind s.pc) h.registers small other (holds_num (places_of file plan s.at) (behind s.pc) (omega arith))
 
 -- the code word at a jump's target
 pub target_aligned : (file : List ℕ) (plan : Plan) (new : List ℕ) (a : ℕ) → Ground file plan new
@@ -108,6 +108,22 @@ links_memory plan r s = at (nat_eq r 1)
     at true = refl
     at false = refl
 
+links_layout : (plan : Plan) (r : ℕ) (s : SymMachine) → (links plan r s).layout ≡ s.layout
+links_layout plan r s = at (nat_eq r 1)
+  where
+    at : (t : Bool) → (cond t (calls_from plan (behind s.pc) s)
+        (record s { registers = slice_set s.registers r (Num (behind s.pc)) })).layout ≡ s.layout
+    at true = refl
+    at false = refl
+
+links_at : (plan : Plan) (r : ℕ) (s : SymMachine) → (links plan r s).at ≡ s.at
+links_at plan r s = by_test (nat_eq r 1)
+  where
+    by_test : (t : Bool) → (cond t (calls_from plan (behind s.pc) s)
+        (record s { registers = slice_set s.registers r (Num (behind s.pc)) })).at ≡ s.at
+    by_test true = refl
+    by_test false = refl
+
 -- a jump to a code word
 pub jumps_alike : (file : List ℕ) (plan : Plan) (new : List ℕ) (s : SymMachine) (m : Machine) (w r target : ℕ)
     → Ground file plan new → InStep file plan new s m
@@ -123,8 +139,9 @@ jumps_alike file plan new s m w r target g h code none small other safe = at (is
         rw (flat_jump r target m (target_aligned file plan new target g e)) (record {
           pc = refl;
           ending = h.ending ∙ sym (links_ending plan r s);
-          registers = links_alike file plan new s m w r g h code none small other;
-          memory = rw (links_memory plan r s) h.memory;
+          registers = rw (links_at plan r s) (links_alike file plan new s m w r g h code none small other);
+          memory = rw (links_at plan r s, links_memory plan r s) h.memory;
+          heap = rw (links_at plan r s, links_layout plan r s, links_memory plan r s) h.heap;
         })
     at false e safe = absurd safe
 
@@ -141,8 +158,9 @@ branch_alike file plan new s m target g h safe = at (is_some (code_word file tar
         rw (flat_jump 0 target m (target_aligned file plan new target g e)) (record {
           pc = refl;
           ending = h.ending;
-          registers = put_zero (places_of file plan) s.registers m.registers s.bits (behind m.pc) h.registers;
+          registers = put_zero (places_of file plan s.at) s.registers m.registers s.bits (behind m.pc) h.registers;
           memory = h.memory;
+          heap = h.heap;
         })
     at false e safe = absurd safe
 
@@ -166,8 +184,9 @@ unfolding back_of
 back_alike file plan new s m back g h none = rw none (record {
   pc = refl;
   ending = h.ending;
-  registers = put_unset (places_of file plan) s.registers (slice_set m.registers 0 (behind m.pc)) s.bits 1
-      (put_zero (places_of file plan) s.registers m.registers s.bits (behind m.pc) h.registers) (omega arith)
+  registers = put_unset (places_of file plan s.at) s.registers (slice_set m.registers 0 (behind m.pc)) s.bits 1
+      (put_zero (places_of file plan s.at) s.registers m.registers s.bits (behind m.pc) h.registers) (omega arith)
       (omega arith);
   memory = h.memory;
+  heap = h.heap;
 })

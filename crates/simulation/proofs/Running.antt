@@ -19,11 +19,13 @@ use Rattle.sym_spec.specs.SymRuns.{SymState, step, steps, sym_run}
 use Rattle.match_spec.specs.Stands.{Places, places_of, back_of, Holds}
 use Rattle.match_spec.specs.Parts.{InRegisters}
 use Rattle.match_spec.specs.Matches.{InStep, Matches}
-use Rattle.match_spec.specs.Keeps.{IsNoFault, Keeps, turn_bound}
+use Rattle.match_spec.specs.Keeps.{IsNoFault, Keeps}
+use Rattle.heap_spec.specs.Service.{turn_bound}
 use Rattle.simulation.specs.Ground.{Ground}
 use Rattle.simulation.proofs.Operations.{holds_num}
 use Rattle.simulation.proofs.InputLeft.{bytes_left}
 use Rattle.simulation.proofs.Starting.{memory_start}
+use Rattle.simulation.proofs.InHeap.{heap_start}
 use Rattle.site_stubs.specs.StubRuns.{state_of}
 use Rattle.flat_spec.proofs.Runs.{more_steps}
 use Rattle.simulation.proofs.Following.{Follows}
@@ -62,13 +64,14 @@ registers_start places = record {
 }
 
 start_alike : (file : List ℕ) (plan : Plan) (new : List ℕ) → Ground file plan new
-    → InStep file plan new (start file) (flat_machine.start new)
+    → InStep file plan new (start file plan) (flat_machine.start new)
 unfolding start flat_machine.start
 start_alike file plan new g = record {
   pc = g.entry;
   ending = refl;
-  registers = registers_start (places_of file plan);
+  registers = registers_start (places_of file plan []);
   memory = memory_start file new (back_of file plan) g.memory;
+  heap = heap_start file plan new g;
 }
 
 -- a fault stays a fault

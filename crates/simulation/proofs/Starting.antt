@@ -201,7 +201,7 @@ plain_of_store : (file : List ℕ) (a : ℕ) → is_plain_store file a ≡ true 
 unfolding is_plain_store
 plain_of_store file a h = and_first (is_plain file a) _ h
 
-no_life : (file : List ℕ) (b : ℕ) (k : Life) → slice_get (map life_of (start_memory file).blocks) b ≡ Some k → ⊥
+pub no_life : (file : List ℕ) (b : ℕ) (k : Life) → slice_get (map life_of (start_memory file).blocks) b ≡ Some k → ⊥
 unfolding start_memory
 no_life file b k e = cc
 

@@ -1,5 +1,5 @@
 -- The machines in step: a turn of the symbol machine and one turn of the flat machine.
-use Rattle.std.proofs.Common.{◌≡◌, ◌≢◌, ℕ, zero, suc, ◌+◌, ◌/◌, ◌%◌, ◌<◌, List, [], length, refl, ap, subst, arith}
+use Rattle.std.proofs.Common.{◌≡◌, ◌≢◌, ℕ, zero, suc, ◌+◌, ◌/◌, ◌%◌, ◌<◌, ◌≤◌, List, length, refl, ap, subst, arith}
 use Rattle.std.specs.Prelude.{Option, Some, None}
 use Rattle.std.specs.List.{All}
 use Rattle.std.proofs.lemmas.List.Elements.{All-cons, All-nil}
@@ -21,18 +21,21 @@ use Rattle.match_spec.specs.Stands.{places_of, back_of, Holds}
 use Rattle.match_spec.specs.Matches.{InStep}
 use Rattle.match_spec.specs.Keeps.{IsNoFault}
 use Rattle.simulation.specs.Ground.{Ground}
-use Rattle.simulation.proofs.InMemory.{puts_memory}
+use Rattle.simulation.proofs.InMemory.{IsReached, puts_memory}
+use Rattle.simulation.proofs.InHeap.{puts_heap}
 use Rattle.simulation.proofs.Registers.{put_register}
 
 pub gives_alike : (file : List ℕ) (plan : Plan) (new : List ℕ) (s : SymMachine) (m : Machine) (r : ℕ) (v : Value)
     (w : ℕ)
-    → InStep file plan new s m → r < 32 → r ≢ 4 → Holds (places_of file plan) v w
+    → InStep file plan new s m → r < 32 → r ≢ 4 → Holds (places_of file plan s.at) v w
     → InStep file plan new (gives r v s) (flat.gives r w m)
 gives_alike file plan new s m r v w h small other holds = record {
   pc = ap behind h.pc;
   ending = h.ending;
-  registers = put_register (places_of file plan) s.registers m.registers s.bits r v w h.registers small other holds;
+  registers =
+      put_register (places_of file plan s.at) s.registers m.registers s.bits r v w h.registers small other holds;
   memory = h.memory;
+  heap = h.heap;
 }
 
 pub passes_alike : (file : List ℕ) (plan : Plan) (new : List ℕ) (s : SymMachine) (m : Machine)
@@ -41,8 +44,8 @@ passes_alike file plan new s m h = record {
   pc = ap behind h.pc;
   ending = h.ending;
   registers = h.registers;
-  memory =
-      h.memory;
+  memory = h.memory;
+  heap = h.heap;
 }
 
 length-low_bytes : (n w : ℕ) → length (low_bytes n w) ≡ n
@@ -58,8 +61,8 @@ low_are_bytes (suc n) w =
 -- the store of an instruction
 pub stores_alike : (file : List ℕ) (plan : Plan) (new : List ℕ) (s : SymMachine) (m : Machine) (width : Width)
     (at v : Value) (w x : ℕ)
-    → Ground file plan new → InStep file plan new s m → Holds (places_of file plan) at w
-    → Holds (places_of file plan) v x
+    → Ground file plan new → InStep file plan new s m → Holds (places_of file plan s.at) at w
+    → Holds (places_of file plan s.at) v x
     → IsNoFault (stores (stored (is_plain_store file) s.memory width at v) s).ending
     → InStep file plan new (stores (stored (is_plain_store file) s.memory width at v) s)
     (flat.stores (flat_memory.stored m.memory width w x) m)
@@ -71,18 +74,23 @@ stores_alike file plan new s m width at v w x g h to holds safe =
         → InStep file plan new (stores o s) (flat.stores (flat_memory.stored m.memory width w x) m)
     by_memory None e safe = absurd safe
     by_memory (Some n) e safe =
-        let alike : StoresAlike (back_of file plan) [] (image_end (segments_of file)) (is_plain file)
+        let alike : StoresAlike (back_of file plan) s.at (image_end (segments_of file)) (is_plain file)
         (is_plain_store file)
         m.memory s.memory n width w x =
-        g.laws.stores (back_of file plan) [] (image_end (segments_of file)) (is_plain file)
+        g.laws.stores (back_of file plan) s.at (image_end (segments_of file)) (is_plain file)
         (is_plain_store file) m.memory
         s.memory n width at v w x h.memory.laid h.memory.stands to.is holds.is holds.small e in
+        let went : (y : ℕ) → w ≤ y → y < w + length (low_bytes (size_of width) x)
+        → IsReached file (places_of file plan s.at) s.memory y =
+        λ y low high. alike.went y low (subst (λ k. y < w + k) (length-low_bytes (size_of width) x) high) in
         rw alike.there (record {
           pc = ap behind h.pc;
           ending = h.ending;
           registers = h.registers;
-          memory = puts_memory file new (places_of file plan) s.memory n m.memory w
+          memory = puts_memory file new (places_of file plan s.at) s.memory n m.memory w
               (low_bytes (size_of width) x) g.memory
               h.memory (low_are_bytes (size_of width) x) alike.stands alike.laid alike.lives
-              (λ y low high. alike.went y low (subst (λ k. y < w + k) (length-low_bytes (size_of width) x) high));
+              went;
+          heap = puts_heap file plan new s.layout s.at s.memory n m.memory w (low_bytes (size_of width) x) g h.memory
+              h.heap alike.lives went;
         })

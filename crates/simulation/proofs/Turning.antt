@@ -1,10 +1,10 @@
 -- A turn of the symbol machine at each kind of place: at a chosen site, at a jump back, elsewhere.
-use Rattle.std.proofs.Common.{◌≡◌, ◌≢◌, ◌⊎◌, inl, inr, ℕ, ◌+◌, ◌-◌, ◌*◌, ◌/◌, ◌%◌, ◌^◌, ◌<◌, ◌≤◌, List, Bool, true, false, cond, length, length-set, get_or-set_same, get_or-set_other, refl, ap, sym, ◌∙◌, subst, arith, get_or, append-nil}
-use Rattle.std.specs.Prelude.{Option, Some, None, is_some, IsSome, nat_eq, ◌&&◌, ◌||◌, slice_set, slice_get, slice_index, option_and_then, bit_and, bit_or}
+use Rattle.std.proofs.Common.{◌≡◌, ◌≢◌, ◌⊎◌, inl, inr, ℕ, ◌+◌, ◌*◌, ◌/◌, ◌%◌, ◌^◌, ◌<◌, ◌≤◌, List, Bool, true, false, cond, length, map, length-set, get_or-set_same, get_or-set_other, refl, ap, sym, ◌∙◌, subst, arith, get_or, append-nil}
+use Rattle.std.specs.Prelude.{Option, Some, None, is_some, IsSome, nat_eq, ◌&&◌, ◌||◌, slice_set, slice_get, slice_index, option_and_then, bit_or}
 use Rattle.std.specs.List.{All}
-use Rattle.std.specs.Int.Bits.{and_lt, or_lt}
+use Rattle.std.specs.Int.Bits.{or_lt}
 use Rattle.std.proofs.lemmas.Bool.Decides.{nat_tests}
-use Rattle.std.proofs.lemmas.Option.{slice_get-get_or, slice_get_within, get_or_from_slice_get}
+use Rattle.std.proofs.lemmas.Option.{slice_get_within, get_or_from_slice_get}
 use Rattle.rv_isa.specs.declared.Instr.{Instr}
 use Rattle.rv_isa.specs.declared.Instr.TheVariants.{Lui, Auipc, Jal, Jalr, Branch, Load, Store, OpImm, Reg, Fence, Ecall, Ebreak}
 use Rattle.rv_isa.specs.Encoded.{IsExtended, IsFormed, encoded}
@@ -16,7 +16,7 @@ use Rattle.plan_core.specs.declared.types.Plan.{Plan}
 use Rattle.plan_core.specs.declared.types.PlanLine.{PlanLine}
 use Rattle.site_spec.specs.declared.Site.{Site}
 use Rattle.rv_isa.specs.Addresses.{plus, minus}
-use Rattle.site_spec.specs.Places.{text_at, stub_at, reaches}
+use Rattle.site_spec.specs.Places.{text_at, stub_at, reaches, text_room}
 use Rattle.site_spec.specs.Plans.{IsInReach}
 use Rattle.site_spec.specs.Sites.{site_at}
 use Rattle.new_file_spec.specs.Rewritten.{jump_words}
@@ -24,7 +24,7 @@ use Rattle.new_file_spec.specs.Stubs.{stub_words}
 use Rattle.machine_spec.specs.declared.Ending.{Ending}
 use Rattle.machine_spec.specs.declared.Ending.TheVariants.{Running, Exit, Illegal, Fault}
 use Rattle.machine_spec.specs.declared.FaultKind.TheVariants.{F3}
-use Rattle.machine_spec.specs.Memory.{Range, memory_of}
+use Rattle.machine_spec.specs.Memory.{memory_of}
 use Rattle.machine_spec.specs.Start.{behind}
 use Rattle.flat_spec.specs.Stores.{fetched}
 use Rattle.flat_spec.specs.Machine.{Machine, register, word_read}
@@ -35,122 +35,33 @@ use Rattle.flat_spec.specs.Turns as flat
 use Rattle.flat_spec.specs.Runs.{steps}
 use Rattle.sym_value.specs.declared.Value.{Value}
 use Rattle.sym_value.specs.declared.Value.TheVariants.{Num, Ptr, Ret, Mix, Part, Unset}
-use Rattle.sym_cells.specs.Memory.{Memory}
+use Rattle.sym_cells.specs.Memory.{life_of}
 use Rattle.sym_spec.specs.SymMachine.{SymMachine, value_of, jumps, goes_back, ends, faults, links, calls_from, line_at, clear_bit, back_index}
 use Rattle.sym_spec.specs.SymCalls.{quiet, calls}
-use Rattle.sym_spec.specs.SymTurns.{Here, Nothing, Pair, Code, here, runs_here, executes, acts, jumps_to, turn_of, turn}
+use Rattle.sym_spec.specs.SymTurns.{Here, Nothing, Heap, Pair, Code, here, runs_here, executes, acts, jumps_to, turn_of, turn}
 use Rattle.sym_value.specs.Standing.{IsReturn}
-use Rattle.match_spec.specs.Stands.{back_of, Places, places_of, Holds}
-use Rattle.match_spec.specs.Parts.{InMemory, text_room}
+use Rattle.match_spec.specs.Stands.{back_of, places_of, Holds}
+use Rattle.match_spec.specs.Parts.{InMemory, InHeap}
 use Rattle.match_spec.specs.Matches.{InStep}
 use Rattle.match_spec.specs.Keeps.{IsNoFault}
 use Rattle.simulation.specs.Ground.{Ground, IsJalSite, IsPairSite, IsUnchosen}
-use Rattle.simulation.proofs.Backs.{BackLine, back_line, LineAt, line_some, index_is, site_back_same}
+use Rattle.simulation.proofs.Backs.{LineAt, line_some, index_is, site_back_same}
 use Rattle.simulation.proofs.Operations.{holds_unset, holds_ret}
 use Rattle.simulation.proofs.Registers.{changed_registers, zero_unread}
 use Rattle.simulation.proofs.Jumping.{behind_code, jumps_alike, flat_jump, flat_back, back_alike, target_aligned}
 use Rattle.simulation.proofs.Calling.{TurnsAlike, quiet_alike, ends_alike, calls_alike}
 use Rattle.simulation.proofs.Acting.{IsPlainInstr, acts_alike, neither, unequal}
-use Rattle.site_stubs.specs.StubRuns.{CallsFrom, GoesBack, Reaches, RunsAt, StandAt, state_of}
+use Rattle.site_stubs.specs.StubRuns.{CallsFrom, Reaches, RunsAt, StandAt, state_of}
 use Rattle.site_stubs.proofs.Turns.{bit_small}
 use Rattle.site_stubs.proofs.Steps.{step_quiet, turn_is}
 use Rattle.site_stubs.proofs.Way.{goes_there, split_lower, split_upper}
-use Rattle.site_stubs.proofs.StubLaw.{calls as stub_calls, returns as stub_returns}
+use Rattle.site_stubs.proofs.StubLaw.{calls as stub_calls}
 use Rattle.flat_spec.proofs.Runs.{more_steps, one_step}
 use Rattle.new_file_spec.proofs.Jumps.{jump_formed}
+use Rattle.simulation.proofs.StubPlaces.{stub_room, place_is, stub_stands, line_bit, chosen_stub, cleared_small, chosen_back}
+use Rattle.simulation.proofs.HeapTurns.{heap_turns}
 use Rattle.simulation.proofs.StubJump.{jal_turn}
-use Rattle.simulation.proofs.Following.{Follows, IsCodeHere, follows_one, fetch_code, fetch_text, here_code, here_pair, plain_turn, plain_safe}
-
-stub_room : (file : List ℕ) (plan : Plan) (new : List ℕ) (k : ℕ) → Ground file plan new → k < length plan.sites
-    → (text_at file ≤ stub_at (text_at file) k) × (stub_at (text_at file) k + 44 ≤ text_at file + text_room) ×
-    (stub_at (text_at file) k + 44 < 2 ^ 31) × (stub_at (text_at file) k % 4 ≡ 0)
-stub_room file plan new k g below =
-    let low : text_at file + text_room ≤ 0x7FF00000 = g.memory.low_text in
-    let few : length plan.sites ≤ 32 = g.few in
-    let aligned : text_at file % 4 ≡ 0 = g.aligned_text in
-    (omega arith, omega (arith, few, below), omega (arith, low, few, below), omega (arith, aligned))
-
--- a word of a stub is fetched
-stub_word : (file : List ℕ) (plan : Plan) (new : List ℕ) (places : Places) (held : Memory) (memory : List Range)
-    (k i w : ℕ) (line : PlanLine) (s : Site) → Ground file plan new
-    → InMemory file new places held memory → slice_get plan.sites k ≡ Some line → site_at file line.addr ≡ Some s
-    → i < 11
-    → slice_get (stub_words (stub_at (text_at file) k) line.bit s.target s.back) i ≡ Some w
-    → fetched memory (stub_at (text_at file) k + 4 * i) ≡ Some w
-stub_word file plan new places held memory k i w line s g h there site small e =
-    let room : (text_at file ≤ stub_at (text_at file) k) ×
-    (stub_at (text_at file) k + 44 ≤ text_at file + text_room) × (stub_at (text_at file) k + 44 < 2 ^ 31) ×
-    (stub_at (text_at file) k % 4 ≡ 0)
-    = stub_room file plan new k g (slice_get_within plan.sites k line there) in
-    fetch_text file new places held memory (stub_at (text_at file) k + 4 * i) h (omega (arith, room.0))
-    (omega (arith, room.1, small)) ∙ g.stub k i w line s there site e
-
--- a word below 2^32 is itself as an address
-place_is : (at n : ℕ) → at + n < 2 ^ 32 → at + n ≡ plus at n
-place_is at n small = omega (arith, small)
-
--- the stub of a site line stands in memory
-stub_stands : (file : List ℕ) (plan : Plan) (new : List ℕ) (places : Places) (held : Memory) (memory : List Range)
-    (k : ℕ) (line : PlanLine) (s : Site) → Ground file plan new
-    → InMemory file new places held memory → slice_get plan.sites k ≡ Some line → site_at file line.addr ≡ Some s
-    → StandAt memory (stub_at (text_at file) k) (stub_words (stub_at (text_at file) k) line.bit s.target s.back)
-stub_stands file plan new places held memory k line s g h there site i below =
-    let at : ℕ = stub_at (text_at file) k in
-    let room : (text_at file ≤ at) × (at + 44 ≤ text_at file + text_room) × (at + 44 < 2 ^ 31) × (at % 4 ≡ 0) =
-    stub_room file plan new k g (slice_get_within plan.sites k line there) in
-    let small : i < 11 = below in
-    subst (λ a. fetched memory a ≡ Some (slice_index (stub_words at line.bit s.target s.back) i))
-    (place_is at (4 * i) (omega (arith, room.2, small)))
-    (stub_word file plan new places held memory k i
-    (slice_index (stub_words at line.bit s.target s.back) i) line s g h there site small
-    (slice_get-get_or (stub_words at line.bit s.target s.back) i 0 below))
-
--- the line of a plan has a bit below 32
-line_bit : (file : List ℕ) (plan : Plan) (new : List ℕ) (k : ℕ) (line : PlanLine) → Ground file plan new
-    → slice_get plan.sites k ≡ Some line → line.bit < 32
-line_bit file plan new k line g there =
-    let value : get_or plan.sites k line ≡ line = get_or_from_slice_get plan.sites k line line there in
-    subst (λ l. l.bit < 32) value (g.fits.bits k line (slice_get_within plan.sites k line there))
-
--- a jump back to the return address of a chosen site
-chosen_back : (file : List ℕ) (plan : Plan) (new : List ℕ) (s : SymMachine) (m : Machine) (back k : ℕ)
-    (input output : List ℕ) → Ground file plan new
-    → InStep file plan new s m → s.ending ≡ Running → IsReturn back → back_index file plan.sites back ≡ Some k
-    → Reaches 6 (record m { registers = slice_set m.registers 0 (behind m.pc); pc = back_of file plan back }) input
-    output back
-    (clear_bit (option_and_then (slice_get plan.sites) (back_index file plan.sites back)) s.bits)
-unfolding back_of
-chosen_back file plan new s m back k input output g h run is e =
-    let line : BackLine file plan.sites back k = back_line file plan.sites back k e in
-    let at : ℕ = stub_at (text_at file) k in
-    let room : (text_at file ≤ at) × (at + 44 ≤ text_at file + text_room) × (at + 44 < 2 ^ 31) × (at % 4 ≡ 0) =
-    stub_room file plan new k g line.below in
-    let from : Machine = record m { registers = slice_set m.registers 0 (behind m.pc); pc = at + 20 } in
-    let here : RunsAt from (plus at 20) at (stub_words at line.line.bit line.site.target line.site.back) = record {
-      ending = h.ending ∙ run;
-      pc = place_is at 20 (omega (arith, room.2));
-      registers = length-set m.registers 0 (behind m.pc) ∙ h.registers.long;
-      words = stub_stands file plan new (places_of file plan) s.memory m.memory k line.line line.site g h.memory
-          line.there line.at;
-    } in
-    let to : line.site.back ≡ back = line.back in
-    let goes : GoesBack line.line.bit line.site.back from input output =
-    stub_returns at line.line.bit line.site.target line.site.back (line_bit file plan new k line.line g line.there)
-    (rw to is.0) (rw to is.1) from input output here in
-    let bits : register from 4 ≡ s.bits = zero_unread m.registers (behind m.pc) 4 ∙ h.registers.bits_there in
-    rw (e, line.there)
-    (subst (λ b. Reaches 6 from input output b (bit_and s.bits (2 ^ 32 - 1 - 2 ^ line.line.bit))) to
-    (subst (λ w. Reaches 6 from input output line.site.back
-    (bit_and w (2 ^ 32 - 1 - 2 ^ line.line.bit))) bits goes.reaches))
-
--- the bits stay a word where one is cleared
-cleared_small : (lines : List PlanLine) (o : Option ℕ) (bits : ℕ) → bits < 2 ^ 32
-    → clear_bit (option_and_then (slice_get lines) o) bits < 2 ^ 32
-cleared_small lines o bits small = at (option_and_then (slice_get lines) o)
-  where
-    at : (p : Option PlanLine) → clear_bit p bits < 2 ^ 32
-    at (Some line) = and_lt 32 bits (2 ^ 32 - 1 - 2 ^ line.bit) small (omega arith)
-    at None = small
+use Rattle.simulation.proofs.Following.{Follows, IsCodeHere, follows_one, fetch_code, here_code, here_heap, here_pair, plain_turn, plain_safe}
 
 -- a jump back to a return address
 back_follows : (file : List ℕ) (plan : Plan) (new : List ℕ) (s : SymMachine) (m : Machine) (back : ℕ)
@@ -188,12 +99,13 @@ back_follows file plan new s m back input output g h run is turn = by_index (bac
           next = record {
             pc = ends.pc;
             ending = ends.ending ∙ sym run;
-            registers = changed_registers (places_of file plan) s.registers m.registers ends.next.registers s.bits
+            registers = changed_registers (places_of file plan s.at) s.registers m.registers ends.next.registers s.bits
                 (register ends.next 1) bits Unset h.registers ends.registers
                 refl ends.bits (λ j a b. ends.others j a b ∙ zero_unread m.registers (behind m.pc) j)
-                (holds_unset (places_of file plan) (register ends.next 1) ends.link_small)
+                (holds_unset (places_of file plan s.at) (register ends.next 1) ends.link_small)
                 (cleared_small plan.sites (back_index file plan.sites back) s.bits h.registers.bits_small);
-            memory = subst (λ x. InMemory file new (places_of file plan) s.memory x) (sym ends.memory) h.memory;
+            memory = subst (λ x. InMemory file new (places_of file plan s.at) s.memory x) (sym ends.memory) h.memory;
+            heap = subst (λ x. InHeap file plan s.layout s.at (map life_of s.memory.blocks) x) (sym ends.memory) h.heap;
           };
         }
 
@@ -208,7 +120,7 @@ register_jump : (file : List ℕ) (plan : Plan) (new : List ℕ) (s : SymMachine
 register_jump file plan new s m w rd rs1 imm input output g h run code none small other low apart turn safe =
     by_value (value_of s rs1) (h.registers.holds rs1 low apart) safe
   where
-    by_value : (v : Value) → Holds (places_of file plan) v (register m rs1)
+    by_value : (v : Value) → Holds (places_of file plan s.at) v (register m rs1)
         → IsNoFault (jumps_to file plan rd imm v s).ending
         → Follows file plan new (quiet input (jumps_to file plan rd imm v s)) m input output
     by_value (Num v) holds safe =
@@ -253,7 +165,7 @@ unchosen file plan new s m w input output g bytes h run code none safe = by_inst
   where
     word : fetched m.memory m.pc ≡ Some w
     word = ap (fetched m.memory) h.pc ∙ (fetch_code file plan new
-        (places_of file plan) s.memory m.memory s.pc w g h.memory code ∙ g.code s.pc w code none)
+        (places_of file plan s.at) s.memory m.memory s.pc w g h.memory code ∙ g.code s.pc w code none)
 
     turn : (o : Option Instr) → decoded w ≡ o → flat.turn input m ≡ flat.executes input o m
     turn o e = turn_is input m w o (h.ending ∙ run) word e
@@ -296,11 +208,6 @@ unchosen file plan new s m w input output g bytes h run code none safe = by_inst
     by_instr (Some (Fence rest)) e safe = plain (Fence rest) e tt safe
     by_instr (Some Ebreak) e safe = plain Ebreak e tt safe
 
-chosen_stub : (file : List ℕ) (plan : Plan) (a k : ℕ) → back_index file plan.sites a ≡ Some k
-    → back_of file plan a ≡ stub_at (text_at file) k + 20
-unfolding back_of
-chosen_stub file plan a k e = rw e refl
-
 -- a write to ra is read there alone
 link_unread : (words : List ℕ) (w k : ℕ) → k ≢ 1 → word_read (slice_set words 1 w) k ≡ word_read words k
 link_unread words w k other = at (nat_eq k 0)
@@ -342,7 +249,8 @@ enters file plan new s m line site input output g h run at named found low align
       pc = way.pc;
       registers = way.long;
       words = subst (λ x. StandAt x stub (stub_words stub line.bit site.target site.back)) (sym way.memory)
-          (stub_stands file plan new (places_of file plan) s.memory m.memory number line site g h.memory at.there here);
+          (stub_stands file plan new (places_of file plan s.at) s.memory m.memory number line site g h.memory at.there
+          here);
     } in
     let to : CallsFrom stub line.bit site.target way.first input output =
     stub_calls stub line.bit site.target site.back (omega (arith, room.2))
@@ -365,14 +273,16 @@ enters file plan new s m line site input output g h run at named found low align
       next = record {
         pc = to.reaches.pc;
         ending = to.reaches.ending ∙ sym run;
-        registers = changed_registers (places_of file plan) s.registers m.registers to.reaches.next.registers s.bits
-            (stub + 20) (bit_or s.bits (2 ^ line.bit)) (Ret site.back)
+        registers = changed_registers (places_of file plan s.at) s.registers m.registers to.reaches.next.registers
+            s.bits (stub + 20) (bit_or s.bits (2 ^ line.bit)) (Ret site.back)
             h.registers to.reaches.registers link bits (λ j a b. to.reaches.others j a b ∙ way.others j a)
-            (holds_ret (places_of file plan) site.back (stub + 20) is back (omega (arith, room.2)))
+            (holds_ret (places_of file plan s.at) site.back (stub + 20) is back (omega (arith, room.2)))
             (or_lt 32 s.bits (2 ^ line.bit) h.registers.bits_small
             (bit_small line.bit (line_bit file plan new number line g at.there)));
-        memory = subst (λ x. InMemory file new (places_of file plan) s.memory x)
+        memory = subst (λ x. InMemory file new (places_of file plan s.at) s.memory x)
             (sym (to.reaches.memory ∙ way.memory)) h.memory;
+        heap = subst (λ x. InHeap file plan s.layout s.at (map life_of s.memory.blocks) x)
+            (sym (to.reaches.memory ∙ way.memory)) h.heap;
       };
     })
 
@@ -384,7 +294,7 @@ jump_word : (file : List ℕ) (plan : Plan) (new : List ℕ) (s : SymMachine) (m
     → slice_get (jump_words (stub_at (text_at file) at.number) site) i ≡ Some w → fetched m.memory (s.pc + 4 * i)
     ≡ Some w
 jump_word file plan new s m line site i v w g h at found code e =
-    fetch_code file plan new (places_of file plan) s.memory m.memory (s.pc + 4 * i) v g h.memory code
+    fetch_code file plan new (places_of file plan s.at) s.memory m.memory (s.pc + 4 * i) v g h.memory code
     ∙ subst (λ x. fetched (memory_of new) (x + 4 * i) ≡ Some w) at.addr
     (g.jump at.number i w line site at.there (ap (site_at file) at.addr ∙ found) e)
 
@@ -524,10 +434,10 @@ unchosen_pair file plan new s m site input output g h run found pair none =
     let (next, last, is) = pair_behind file plan new s.pc site g pair in
     let first : fetched m.memory m.pc ≡ Some pair.first =
     ap (fetched m.memory) h.pc ∙ (fetch_code file plan new
-    (places_of file plan) s.memory m.memory s.pc pair.first g h.memory pair.there ∙ words.0) in
+    (places_of file plan s.at) s.memory m.memory s.pc pair.first g h.memory pair.there ∙ words.0) in
     let second : fetched m.memory (behind m.pc) ≡ Some pair.second =
     ap (fetched m.memory) (ap behind h.pc ∙ next)
-    ∙ (fetch_code file plan new (places_of file plan) s.memory m.memory (s.pc + 4) pair.second g h.memory pair.next
+    ∙ (fetch_code file plan new (places_of file plan s.at) s.memory m.memory (s.pc + 4) pair.second g h.memory pair.next
     ∙ words.1) in
     let goes : plus (plus m.pc pair.upper) pair.lower / 2 * 2 ≡ site.target =
     ap (λ x. plus (plus x pair.upper) pair.lower / 2 * 2) h.pc
@@ -552,14 +462,15 @@ unchosen_pair file plan new s m site input output g h run found pair none =
       next = record {
         pc = refl;
         ending = h.ending;
-        registers = changed_registers (places_of file plan) s.registers m.registers to.registers s.bits site.back
+        registers = changed_registers (places_of file plan s.at) s.registers m.registers to.registers s.bits site.back
             s.bits (Ret site.back) h.registers
             (length-set (slice_set m.registers 1 (plus m.pc pair.upper)) 1 (behind (behind m.pc)) ∙ long)
             (get_or-set_same (slice_set m.registers 1 (plus m.pc pair.upper)) 1 (behind (behind m.pc)) 0 inside ∙ link)
             ((let apart : 4 ≢ 1 = omega arith in others 4 apart) ∙ h.registers.bits_there) (λ k n x. others k n)
-            (holds_ret (places_of file plan) site.back site.back is
+            (holds_ret (places_of file plan s.at) site.back site.back is
             (site_back_same file plan new s.pc site g found none) is.0) h.registers.bits_small;
         memory = h.memory;
+        heap = h.heap;
       };
     })
 
@@ -682,7 +593,7 @@ running_follows file plan new s m input output g bytes h run safe = by_here (her
         → IsNoFault (executes file plan input (decoded w) s).next.ending
         → Follows file plan new (executes file plan input (decoded w) s) m input output
     by_line w here None named safe = unchosen file plan new s m w input output g bytes h run here.code
-        (record { none = named; alone = here.alone }) safe
+        (record { none = named; alone = here.alone; no_function = here.no_function }) safe
     by_line w here (Some line) named safe =
         let at : LineAt plan.sites s.pc line = line_some plan.sites s.pc line named in
         chosen w line here named (site_at file s.pc) refl
@@ -697,6 +608,8 @@ running_follows file plan new s m input output g bytes h run safe = by_here (her
     by_here : (x : Here) → here file s.pc ≡ x → IsNoFault (runs_here file plan input x s).next.ending
         → Follows file plan new (runs_here file plan input x s) m input output
     by_here Nothing e safe = absurd safe
+    by_here (Heap name) e safe =
+        heap_turns file plan new g name s m input output h run (here_heap file s.pc name e) safe
     by_here (Pair site) e safe =
         let (found, double) = here_pair file s.pc site e in by_pair site found double (g.sites s.pc site found)
     by_here (Code w) e safe = by_line w (here_code file s.pc w e) (line_at plan.sites s.pc) refl safe

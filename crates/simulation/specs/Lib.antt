@@ -1,2 +1,4 @@
 pub mod Laws
+pub mod HeapGround
 pub mod Ground
+pub mod Actions
