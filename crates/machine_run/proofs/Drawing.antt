@@ -13,7 +13,8 @@ draws_none left told before is fits =
     record { rest = left; rest_is = is; fewer = omega arith; counted = omega arith }
 
 -- a read that failed took nothing
-pub draws_kept : (had : List ℕ) (told told' : Option (List ℕ)) (before mid now : ℕ) → Draws had told before mid → told' ≡ told → now ≡ mid
+pub draws_kept : (had : List ℕ) (told told' : Option (List ℕ)) (before mid now : ℕ) → Draws had told before mid
+    → told' ≡ told → now ≡ mid
     → Draws had told' before now
 draws_kept had told told' before mid now d same count =
     record { rest = d.rest; rest_is = same ∙ d.rest_is; fewer = d.fewer; counted = count ∙ d.counted }
@@ -33,7 +34,8 @@ draws_more had told told' before mid now d next =
 
 -- one read
 pub draws_read : (left : List ℕ) (count : ℕ) (told told' : Option (List ℕ)) (before now : ℕ) (buffer buffer' : List ℕ)
-    → told ≡ Some left → Moves told told' count buffer buffer' → now ≡ count_after before count → Draws left told' before now
+    → told ≡ Some left → Moves told told' count buffer buffer' → now ≡ count_after before count
+    → Draws left told' before now
 draws_read left count told told' before now buffer buffer' is moves counted =
     let h = has_moved left count told told' buffer buffer' is moves in
     let size : length h.rest ≡ length left - count = ap length h.moved.rest_is ∙ length-drop count left in
@@ -45,8 +47,10 @@ draws_read left count told told' before now buffer buffer' is moves counted =
     }
 
 -- a further read
-pub draws_next : (had : List ℕ) (count : ℕ) (told told' : Option (List ℕ)) (before mid now : ℕ) (buffer buffer' : List ℕ)
-    → Draws had told before mid → Moves told told' count buffer buffer' → now ≡ count_after mid count → Draws had told' before now
+pub draws_next : (had : List ℕ) (count : ℕ) (told told' : Option (List ℕ)) (before mid now : ℕ)
+    (buffer buffer' : List ℕ)
+    → Draws had told before mid → Moves told told' count buffer buffer' → now ≡ count_after mid count
+    → Draws had told' before now
 draws_next had count told told' before mid now buffer buffer' d moves counted =
     draws_more had told told' before mid now d
     (λ left is fits. draws_read left count told told' mid now buffer buffer' is moves counted)

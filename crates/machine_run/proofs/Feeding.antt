@@ -13,21 +13,30 @@ abbrev pub wait_of : ℕ → ℕ → Wait
 wait_of len fed = record { len = len; fed = fed }
 
 -- so many bytes were fed
-pub record FedSoFar {S : Type 0} (of : Rules S) (most : ℕ) (m : S) (input : List ℕ) (n : ℕ) (now : Seen S) (told : Option (List ℕ)) : Type 0 where
+pub record FedSoFar {S : Type 0} (of : Rules S) (most : ℕ) (m : S) (input : List ℕ) (n : ℕ) (now : Seen S)
+    (told : Option (List ℕ)) : Type 0 where
   pub part : IsFedFrom of most m input now told
   pub size : length part.bytes ≡ n
 
 -- before the first piece
-pub fed_none : {S : Type 0} (of : Rules S) (most : ℕ) (m : S) (input : List ℕ) (now : Seen S) (told : Option (List ℕ)) → now ≡ fed_with of most m []
+pub fed_none : {S : Type 0} (of : Rules S) (most : ℕ) (m : S) (input : List ℕ) (now : Seen S) (told : Option (List ℕ))
+    → now ≡ fed_with of most m []
     → told ≡ Some input → FedSoFar of most m input 0 now told
 fed_none of most m input now told e t =
     record { part = record { bytes = []; rest = input; whole = refl; machine = e; left = t }; size = refl }
 
 -- the source is as before
-pub fed_kept : {S : Type 0} (of : Rules S) (most : ℕ) (m : S) (input : List ℕ) (n : ℕ) (now : Seen S) (told told' : Option (List ℕ))
+pub fed_kept : {S : Type 0} (of : Rules S) (most : ℕ) (m : S) (input : List ℕ) (n : ℕ) (now : Seen S)
+    (told told' : Option (List ℕ))
     → FedSoFar of most m input n now told → told' ≡ told → IsFedFrom of most m input now told'
 fed_kept of most m input n now told told' f e =
-    record { bytes = f.part.bytes; rest = f.part.rest; whole = f.part.whole; machine = f.part.machine; left = e ∙ f.part.left }
+    record {
+      bytes = f.part.bytes;
+      rest = f.part.rest;
+      whole = f.part.whole;
+      machine = f.part.machine;
+      left = e ∙ f.part.left;
+    }
 
 -- what a read has moved from a source that tells
 pub record HasMoved (left : List ℕ) (count : ℕ) (told' : Option (List ℕ)) (before now : List ℕ) : Type 0 where
@@ -48,12 +57,14 @@ no_bytes [] h = refl
 no_bytes (x ∷ xs) h = absurd (omega arith)
 
 -- the source has nothing left
-pub fed_end : {S : Type 0} (of : Rules S) (most : ℕ) (m : S) (input : List ℕ) (n count : ℕ) (now : Seen S) (told told' : Option (List ℕ)) (before after : List ℕ)
+pub fed_end : {S : Type 0} (of : Rules S) (most : ℕ) (m : S) (input : List ℕ) (n count : ℕ) (now : Seen S)
+    (told told' : Option (List ℕ)) (before after : List ℕ)
     → FedSoFar of most m input n now told → Moves told told' count before after → count ≡ 0 → 0 < length before
     → IsFedWhole of most m input now told'
 fed_end of most m input n count now told told' before after f moves none room =
     let h = has_moved f.part.rest count told told' before after f.part.left moves in
-    let empty : f.part.rest ≡ [] = no_bytes f.part.rest (nothing_left (length f.part.rest) count none (h.moved.some room)) in
+    let empty : f.part.rest ≡ [] = no_bytes f.part.rest
+    (nothing_left (length f.part.rest) count none (h.moved.some room)) in
     let same : h.rest ≡ f.part.rest = h.moved.rest_is ∙ ap (λ k. drop k f.part.rest) none in
     record {
       part = record {
@@ -71,7 +82,8 @@ fed_end of most m input n count now told told' before after f moves none room =
     nothing_left (suc n) count e h = absurd (let l : 0 < count = h (omega arith) in omega arith)
 
 -- the read has all that it takes
-pub fed_all : {S : Type 0} (of : Rules S) (most : ℕ) (m : S) (input : List ℕ) (n : ℕ) (now : Seen S) (told : Option (List ℕ))
+pub fed_all : {S : Type 0} (of : Rules S) (most : ℕ) (m : S) (input : List ℕ) (n : ℕ) (now : Seen S)
+    (told : Option (List ℕ))
     → FedSoFar of most m input n now told → n ≡ most → IsFedWhole of most m input now told
 fed_all of most m input n now told f e = record { part = f.part; all = inl (f.size ∙ e) }
 
@@ -87,7 +99,8 @@ moved_piece left rest before now more count h =
     ∙ take-append_seam front (drop count before ++ more)
 
 -- a further piece
-pub fed_more : {S : Type 0} (of : Rules S) (most : ℕ) (m : S) (input : List ℕ) (n count : ℕ) (now now' : Seen S) (told told' : Option (List ℕ)) (before after more piece : List ℕ)
+pub fed_more : {S : Type 0} (of : Rules S) (most : ℕ) (m : S) (input : List ℕ) (n count : ℕ) (now now' : Seen S)
+    (told told' : Option (List ℕ)) (before after more piece : List ℕ)
     → FedSoFar of most m input n now told → Moves told told' count before after → piece ≡ take count (after ++ more)
     → ((m : S) (len : ℕ) (bytes : List ℕ) → now ≡ fed_with of len m bytes → now' ≡ fed_with of len m (bytes ++ piece))
     → FedSoFar of most m input (n + count) now' told'
@@ -110,10 +123,13 @@ fed_more of most m input n count now now' told told' before after more piece f m
     }
 
 -- a failed read leaves what was fed
-pub err_kept : {S T E : Type 0} (of : Rules S) (most : ℕ) (r : Result T E) (start now : Seen S) (told told' told'' : Option (List ℕ)) (n : ℕ)
-    → ((m : S) (left : List ℕ) → start ≡ fed_with of most m [] → told ≡ Some left → FedSoFar of most m left n now told') → told'' ≡ told'
+pub err_kept : {S T E : Type 0} (of : Rules S) (most : ℕ) (r : Result T E) (start now : Seen S)
+    (told told' told'' : Option (List ℕ)) (n : ℕ)
+    → ((m : S) (left : List ℕ) → start ≡ fed_with of most m [] → told ≡ Some left → FedSoFar of most m left n now told')
+    → told'' ≡ told'
     → n < most
-    → OnErr r ((m : S) (left : List ℕ) → start ≡ fed_with of most m [] → told ≡ Some left → IsFedPart of most m left now told'')
+    → OnErr r ((m : S) (left : List ℕ) → start ≡ fed_with of most m [] → told ≡ Some left
+    → IsFedPart of most m left now told'')
 unfolding fed_kept
 err_kept of most (Ok x) start now told told' told'' n f e l = tt
 err_kept of most (Err x) start now told told' told'' n f e l = λ m left is was.
@@ -133,9 +149,11 @@ still_waits old new len fed more count on waits size =
     e ∙ ap (λ k. Some (wait_of len (fed + k))) size
 
 -- a failed read leaves a machine that waits
-pub err_cut : {S T E : Type 0} (of : Rules S) (most : ℕ) (r : Result T E) (start now : Seen S) (told told' : Option (List ℕ))
+pub err_cut : {S T E : Type 0} (of : Rules S) (most : ℕ) (r : Result T E) (start now : Seen S)
+    (told told' : Option (List ℕ))
     → ((m : S) (left : List ℕ) → start ≡ fed_with of most m [] → told ≡ Some left → IsFedPart of most m left now told')
-    → OnErr r ((m : S) (left : List ℕ) → of.asks m ≡ Input most → start ≡ fed_with of most m [] → told ≡ Some left → IsCutOff of m left now told')
+    → OnErr r ((m : S) (left : List ℕ) → of.asks m ≡ Input most → start ≡ fed_with of most m [] → told ≡ Some left
+    → IsCutOff of m left now told')
 err_cut of most (Ok x) start now told told' f = tt
 err_cut of most (Err x) start now told told' f = λ m left at is was.
     let fed = f m left is was in
@@ -151,7 +169,8 @@ err_cut of most (Err x) start now told told' f = λ m left at is was.
     }
 
 -- a read that has all of its input is a turn
-pub whole_done : {S : Type 0} (of : Rules S) (most : ℕ) (m : S) (input : List ℕ) (old new : Seen S) (told : Option (List ℕ)) → of.asks m ≡ Input most
+pub whole_done : {S : Type 0} (of : Rules S) (most : ℕ) (m : S) (input : List ℕ) (old new : Seen S)
+    (told : Option (List ℕ)) → of.asks m ≡ Input most
     → IsFedWhole of most m input old told → new.waits ≡ None → EndsRead of old new
     → IsDone (of.turn input m) new told × ((of.turn input m).written ≡ [])
 whole_done of most m input old new told at h waits ends =

@@ -8,7 +8,8 @@ use Rattle.halo_outside.specs.Seen.{Appends, AppendsPrefix}
 use Rattle.machine_run.specs.Output.{Passes}
 
 -- two texts, one after the other
-appended_twice : (told : Option (List ℕ)) (xs ys : List ℕ) → append_known (append_known told xs) ys ≡ append_known told (xs ++ ys)
+appended_twice : (told : Option (List ℕ)) (xs ys : List ℕ)
+    → append_known (append_known told xs) ys ≡ append_known told (xs ++ ys)
 appended_twice None xs ys = refl
 appended_twice (Some held) xs ys = ap (λ bytes. Some bytes) (append_assoc held xs ys)
 
@@ -24,7 +25,8 @@ pub passes_none : (a : Option (List ℕ)) (p : List ℕ) → Passes a a p p []
 passes_none a p = ([], sym (appended_none a), sym (append-nil p))
 
 -- more bytes, behind those before
-pub passes_more : (a b c : Option (List ℕ)) (p q r xs ys : List ℕ) → Passes a b p q xs → Passes b c q r ys → Passes a c p r (xs ++ ys)
+pub passes_more : (a b c : Option (List ℕ)) (p q r xs ys : List ℕ) → Passes a b p q xs → Passes b c q r ys
+    → Passes a c p r (xs ++ ys)
 passes_more a b c p q r xs ys (sent, f, e) (more, g, d) = (sent ++ more, appends_both a b c sent more f g, joined)
   where
     joined : (sent ++ more) ++ r ≡ p ++ (xs ++ ys)
@@ -39,7 +41,8 @@ passes_part a b c p q xs ys (sent, f, e) (count, g) =
   where
     part : sent ++ take count (q ++ ys) ≡ take (length sent + count) (p ++ (xs ++ ys))
     part = sym (take-append-add sent (q ++ ys) count)
-        ∙ ap (λ x. take (length sent + count) x) (sym (append_assoc sent q ys) ∙ ap (λ x. x ++ ys) e ∙ append_assoc p xs ys)
+        ∙ ap (λ x. take (length sent + count) x)
+        (sym (append_assoc sent q ys) ∙ ap (λ x. x ++ ys) e ∙ append_assoc p xs ys)
 
 -- all of the buffer went to the sink
 pub passes_all : (a b : Option (List ℕ)) (p : List ℕ) → Appends a b p → Passes a b p [] []
@@ -50,7 +53,8 @@ pub passes_held : (a : Option (List ℕ)) (p q xs : List ℕ) → q ≡ p ++ xs 
 passes_held a p q xs e = ([], sym (appended_none a), e)
 
 -- the buffer was made room in, and took some of the bytes
-pub passes_taken : (a b c : Option (List ℕ)) (p q room r w : List ℕ) (i n : ℕ) → Passes a b p q (take i w) → Passes b c q room []
+pub passes_taken : (a b c : Option (List ℕ)) (p q room r w : List ℕ) (i n : ℕ) → Passes a b p q (take i w)
+    → Passes b c q room []
     → r ≡ room ++ take n (drop i w) → Passes a c p r (take (i + n) w)
 passes_taken a b c p q room r w i n before made taken =
     let both = passes_more a c c p room r (take i w ++ []) (take n (drop i w))

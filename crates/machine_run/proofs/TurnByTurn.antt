@@ -22,14 +22,16 @@ next_state of m input n = ap (λ k. steps of k (record { machine = m; input = in
 step_stays : {S : Type 0} (of : Rules S) (s : State S) → Stays of s.machine → next of s ≡ s
 step_stays of s h = ap (λ t. after t s.output) (h s.input) ∙ ap (λ o. record s { output = o }) (append-nil s.output)
 
-stays_more : {S : Type 0} (of : Rules S) (s : State S) (n j : ℕ) → Stays of (steps of n s).machine → steps of (j + n) s ≡ steps of n s
+stays_more : {S : Type 0} (of : Rules S) (s : State S) (n j : ℕ) → Stays of (steps of n s).machine
+    → steps of (j + n) s ≡ steps of n s
 unfolding steps
 stays_more of s n zero h = let e : 0 + n ≡ n = omega arith in ap (λ k. steps of k s) e
 stays_more of s n (suc j) h =
     let e : suc j + n ≡ suc (j + n) = omega arith in
     ap (λ k. steps of k s) e ∙ ap (next of) (stays_more of s n j h) ∙ step_stays of (steps of n s) h
 
-stays_ended : {S : Type 0} (of : Rules S) (m : S) (input : List ℕ) (n bound : ℕ) → n ≤ bound → Stays of (run_from of m input n).machine
+stays_ended : {S : Type 0} (of : Rules S) (m : S) (input : List ℕ) (n bound : ℕ) → n ≤ bound
+    → Stays of (run_from of m input n).machine
     → run_from of m input bound ≡ run_from of m input n
 stays_ended {S} of m input n bound le h =
     let start : State S = record { machine = m; input = input; output = [] } in
@@ -37,13 +39,15 @@ stays_ended {S} of m input n bound le h =
     ap (λ k. steps of k start) size ∙ stays_more of start n (bound - n) h
 
 -- what stands after so many turns, where the machine ran before each
-pub record RanSoFar {S : Type 0} (of : Rules S) (m : S) (input : List ℕ) (n : ℕ) (now : Seen S) (told out out' : Option (List ℕ)) (pending : List ℕ) : Type 0 where
+pub record RanSoFar {S : Type 0} (of : Rules S) (m : S) (input : List ℕ) (n : ℕ) (now : Seen S)
+    (told out out' : Option (List ℕ)) (pending : List ℕ) : Type 0 where
   pub leaves : IsLeft (run_from of m input n) now told
   pub output : Passes out out' [] pending (run_from of m input n).output
   pub runs : (k : ℕ) → k < n → IsRunning of (run_from of m input k)
 
 -- before the first turn
-pub ran_none : {S : Type 0} (of : Rules S) (m : S) (input : List ℕ) (now : Seen S) (told out : Option (List ℕ)) (pending : List ℕ) → now.machine ≡ m
+pub ran_none : {S : Type 0} (of : Rules S) (m : S) (input : List ℕ) (now : Seen S) (told out : Option (List ℕ))
+    (pending : List ℕ) → now.machine ≡ m
     → now.waits ≡ None → told ≡ Some input → pending ≡ [] → RanSoFar of m input 0 now told out out pending
 unfolding steps
 ran_none of m input now told out pending is waits t empty = record {
@@ -53,14 +57,18 @@ ran_none of m input now told out pending is waits t empty = record {
 }
 
 -- the machine runs in this state
-running_now : {S : Type 0} (of : Rules S) (m : S) (input : List ℕ) (n : ℕ) (now : Seen S) (told out out' : Option (List ℕ)) (pending : List ℕ)
-    → RanSoFar of m input n now told out out' pending → ending_of of now.machine ≡ ending.Running → IsRunning of (run_from of m input n)
+running_now : {S : Type 0} (of : Rules S) (m : S) (input : List ℕ) (n : ℕ) (now : Seen S)
+    (told out out' : Option (List ℕ)) (pending : List ℕ)
+    → RanSoFar of m input n now told out out' pending → ending_of of now.machine ≡ ending.Running
+    → IsRunning of (run_from of m input n)
 running_now of m input n now told out out' pending r runs = sym (ap (ending_of of) r.leaves.machine) ∙ runs
 
 -- a turn that was done
-pub ran_next : {S : Type 0} (of : Rules S) (m : S) (input : List ℕ) (n : ℕ) (old new : Seen S) (told told' out mid out' : Option (List ℕ)) (p q : List ℕ)
+pub ran_next : {S : Type 0} (of : Rules S) (m : S) (input : List ℕ) (n : ℕ) (old new : Seen S)
+    (told told' out mid out' : Option (List ℕ)) (p q : List ℕ)
     → RanSoFar of m input n old told out mid p → ending_of of old.machine ≡ ending.Running
-    → ((left : List ℕ) → told ≡ Some left → IsDone (of.turn left old.machine) new told' × Passes mid out' p q (of.turn left old.machine).written)
+    → ((left : List ℕ) → told ≡ Some left
+    → IsDone (of.turn left old.machine) new told' × Passes mid out' p q (of.turn left old.machine).written)
     → RanSoFar of m input (n + 1) new told' out out' q
 ran_next {S} of m input n old new told told' out mid out' p q r runs does =
     let s : State S = run_from of m input n in
@@ -74,12 +82,15 @@ ran_next {S} of m input n old new told told' out mid out' p q r runs does =
       };
       output = subst (λ o. Passes out out' [] q o) (sym (ap (λ s. s.output) more))
           (passes_more out mid out' [] p q s.output (of.turn s.input s.machine).written r.output done.1);
-      runs = below_more (λ k. IsRunning of (run_from of m input k)) n r.runs (running_now of m input n old told out mid p r runs);
+      runs = below_more (λ k. IsRunning of (run_from of m input k)) n r.runs
+          (running_now of m input n old told out mid p r runs);
     }
 
 -- a run that ended at its last turn
-pub ends_at : {S : Type 0} (of : Rules S) (m : S) (input : List ℕ) (n bound : ℕ) (now : Seen S) (told out out' : Option (List ℕ)) (p : List ℕ) (e : Ending)
-    → RanSoFar of m input n now told out out' p → ending_of of now.machine ≡ e → Stays of now.machine → n ≤ bound → EndsAt of m input bound n e
+pub ends_at : {S : Type 0} (of : Rules S) (m : S) (input : List ℕ) (n bound : ℕ) (now : Seen S)
+    (told out out' : Option (List ℕ)) (p : List ℕ) (e : Ending)
+    → RanSoFar of m input n now told out out' p → ending_of of now.machine ≡ e → Stays of now.machine → n ≤ bound
+    → EndsAt of m input bound n e
 ends_at of m input n bound now told out out' p e r is stays le =
     record {
       within = le;
@@ -89,7 +100,8 @@ ends_at of m input n bound now told out out' p e r is stays le =
     }
 
 -- a read that failed
-pub ran_cut : {S E : Type 0} (of : Rules S) (m : S) (input : List ℕ) (n bound : ℕ) (old new : Seen S) (told told' out mid out' : Option (List ℕ)) (p q : List ℕ)
+pub ran_cut : {S E : Type 0} (of : Rules S) (m : S) (input : List ℕ) (n bound : ℕ) (old new : Seen S)
+    (told told' out mid out' : Option (List ℕ)) (p q : List ℕ)
     → RanSoFar of m input n old told out mid p → ending_of of old.machine ≡ ending.Running → n < bound
     → ((left : List ℕ) → told ≡ Some left → IsCutOff of old.machine left new told' × (out' ≡ mid) × (q ≡ p))
     → Ran {E = E} of (Ok ReadFault) bound m input new told' (Holds {E = E} (Ok ReadFault) out out' q)
@@ -105,7 +117,8 @@ ran_cut {S} of m input n bound old new told told' out mid out' p q r runs l does
     }
 
 -- a write that failed
-pub ran_stopped : {S E : Type 0} (of : Rules S) (m : S) (input : List ℕ) (n bound : ℕ) (old new : Seen S) (told told' out mid out' : Option (List ℕ)) (p q : List ℕ)
+pub ran_stopped : {S E : Type 0} (of : Rules S) (m : S) (input : List ℕ) (n bound : ℕ) (old new : Seen S)
+    (told told' out mid out' : Option (List ℕ)) (p q : List ℕ)
     → RanSoFar of m input n old told out mid p → ending_of of old.machine ≡ ending.Running → n < bound
     → ((left : List ℕ) → told ≡ Some left → IsDone (of.turn left old.machine) new told'
     × AppendsPrefix mid out' (p ++ (of.turn left old.machine).written) × ((len : ℕ) × of.asks old.machine ≡ Output len))
@@ -117,7 +130,8 @@ ran_stopped {S} of m input n bound old new told told' out mid out' p q r runs l 
     record {
       taken = n + 1;
       answer = (omega arith, inl (n, done.2.0, refl, done.2.1));
-      runs = below_more (λ k. IsRunning of (run_from of m input k)) n r.runs (running_now of m input n old told out mid p r runs);
+      runs = below_more (λ k. IsRunning of (run_from of m input k)) n r.runs
+          (running_now of m input n old told out mid p r runs);
       leaves = record {
         machine = done.0.machine ∙ sym (ap (λ s. s.machine) more);
         waits = done.0.waits;
@@ -128,9 +142,12 @@ ran_stopped {S} of m input n bound old new told told' out mid out' p q r runs l 
     }
 
 -- a step that lacked memory
-pub ran_lacking : {S E : Type 0} (of : Rules S) (m : S) (input : List ℕ) (n bound : ℕ) (old new : Seen S) (told told' out mid out' : Option (List ℕ)) (p q : List ℕ) (lack : E)
-    → RanSoFar of m input n old told out mid p → ending_of of old.machine ≡ ending.Running → n < bound → of.may_lack ≡ true
-    → ((left : List ℕ) → told ≡ Some left → (new.machine ≡ old.machine) × (new.waits ≡ None) × (told' ≡ Some left) × (out' ≡ mid) × (q ≡ p))
+pub ran_lacking : {S E : Type 0} (of : Rules S) (m : S) (input : List ℕ) (n bound : ℕ) (old new : Seen S)
+    (told told' out mid out' : Option (List ℕ)) (p q : List ℕ) (lack : E)
+    → RanSoFar of m input n old told out mid p → ending_of of old.machine ≡ ending.Running → n < bound
+    → of.may_lack ≡ true
+    → ((left : List ℕ) → told ≡ Some left
+    → (new.machine ≡ old.machine) × (new.waits ≡ None) × (told' ≡ Some left) × (out' ≡ mid) × (q ≡ p))
     → Ran of (Err lack) bound m input new told' (Holds {E = E} (Err lack) out out' q)
 ran_lacking of m input n bound old new told told' out mid out' p q lack r runs l may does =
     let is = does (run_from of m input n).input r.leaves.left in
@@ -143,7 +160,8 @@ ran_lacking of m input n bound old new told told' out mid out' p q lack r runs l
     }
 
 -- a run that still runs after its last turn
-pub ran_all : {S E : Type 0} (of : Rules S) (m : S) (input : List ℕ) (n bound : ℕ) (now : Seen S) (told out out' : Option (List ℕ)) (p : List ℕ)
+pub ran_all : {S E : Type 0} (of : Rules S) (m : S) (input : List ℕ) (n bound : ℕ) (now : Seen S)
+    (told out out' : Option (List ℕ)) (p : List ℕ)
     → RanSoFar of m input n now told out out' p → ending_of of now.machine ≡ ending.Running → n ≡ bound
     → Ran {E = E} of (Ok Steps) bound m input now told (Holds {E = E} (Ok Steps) out out' p)
 ran_all of m input n bound now told out out' p r runs all = record {

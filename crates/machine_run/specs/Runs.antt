@@ -54,11 +54,13 @@ StopsAt of m input bound taken = WroteLast of m input taken ⊎ (taken ≡ bound
 abbrev pub Answers : {S E : Type 0} → Rules S → Result RunEnd E → S → List ℕ → (bound taken : ℕ) → Type 0
 Answers of (Ok (Exited status n)) m input bound taken = (taken ≡ n) × EndsAt of m input bound taken (Exit status)
 Answers of (Ok (Illegal at n)) m input bound taken = (taken ≡ n + 1) × EndsAt of m input bound taken (IllegalAt at)
-Answers of (Ok (Fault kind at n)) m input bound taken = (taken ≡ n + 1) × EndsAt of m input bound taken (FaultAt kind at)
+Answers of (Ok (Fault kind at n)) m input bound taken =
+    (taken ≡ n + 1) × EndsAt of m input bound taken (FaultAt kind at)
 Answers of (Ok Steps) m input bound taken = (taken ≡ bound) × IsRunning of (run_from of m input taken)
 Answers of (Ok ReadFault) m input bound taken = (taken < bound) × IsRunning of (run_from of m input taken)
 Answers of (Ok WriteFault) m input bound taken = (taken ≤ bound) × StopsAt of m input bound taken
-Answers of (Err lack) m input bound taken = (taken < bound) × IsRunning of (run_from of m input taken) × (of.may_lack ≡ true)
+Answers of (Err lack) m input bound taken =
+    (taken < bound) × IsRunning of (run_from of m input taken) × (of.may_lack ≡ true)
 
 -- the machine is that of the state and doesn't wait, and the source has the rest of the input
 pub record IsLeft {S : Type 0} (s : State S) (now : Seen S) (told : Option (List ℕ)) : Type 0 where
@@ -68,7 +70,8 @@ pub record IsLeft {S : Type 0} (s : State S) (now : Seen S) (told : Option (List
 
 -- a machine with this input stands at a read and waits, with the bytes that were taken from the source,
 -- which are fewer than the read takes
-pub record IsCutOff {S : Type 0} (of : Rules S) (m : S) (input : List ℕ) (now : Seen S) (told : Option (List ℕ)) : Type 0 where
+pub record IsCutOff {S : Type 0} (of : Rules S) (m : S) (input : List ℕ) (now : Seen S) (told : Option (List ℕ)) : Type
+    0 where
   pub most : ℕ
   pub at_read : of.asks m ≡ Input most
   pub bytes : List ℕ
@@ -105,7 +108,8 @@ WritesAll (Err lack) before now output = Appends before.told now.told output
 
 -- a run of at most `bound` turns on an input: its answer, the machine before each turn that was taken, what it
 -- leaves, and what of its output was written
-pub record Ran {S E : Type 0} (of : Rules S) (end : Result RunEnd E) (bound : ℕ) (m : S) (input : List ℕ) (now : Seen S) (told : Option (List ℕ)) (IsWritten : List ℕ → Type 0) : Type 0 where
+pub record Ran {S E : Type 0} (of : Rules S) (end : Result RunEnd E) (bound : ℕ) (m : S) (input : List ℕ) (now : Seen S)
+    (told : Option (List ℕ)) (IsWritten : List ℕ → Type 0) : Type 0 where
   pub taken : ℕ
   pub answer : Answers of end m input bound taken
   pub runs : (k : ℕ) → k < taken → IsRunning of (run_from of m input k)
@@ -124,7 +128,8 @@ abbrev pub EndsAs : {S E : Type 0} → Rules S → Result RunEnd E → ℕ → S
 EndsAs of (Ok (Exited status n)) bound now =
     (0 < n) × (n ≤ bound) × (ending_of of now.machine ≡ Exit status) × (now.waits ≡ None)
 EndsAs of (Ok (Illegal at n)) bound now = (n < bound) × (ending_of of now.machine ≡ IllegalAt at) × (now.waits ≡ None)
-EndsAs of (Ok (Fault kind at n)) bound now = (n < bound) × (ending_of of now.machine ≡ FaultAt kind at) × (now.waits ≡ None)
+EndsAs of (Ok (Fault kind at n)) bound now =
+    (n < bound) × (ending_of of now.machine ≡ FaultAt kind at) × (now.waits ≡ None)
 EndsAs of (Ok Steps) bound now = (ending_of of now.machine ≡ Running) × (now.waits ≡ None)
 EndsAs of (Ok ReadFault) bound now = (ending_of of now.machine ≡ Running) × IsSome now.waits
 EndsAs of (Ok WriteFault) bound now = now.waits ≡ None

@@ -11,7 +11,8 @@ use Rattle.machine_run.specs.Runs.{IsCutOff}
 use Rattle.machine_run.specs.Output.{Passes}
 
 -- a machine at a read of at most so many bytes was fed some of the input, which the source has lost
-pub record IsFedFrom {S : Type 0} (of : Rules S) (most : ℕ) (m : S) (input : List ℕ) (now : Seen S) (told : Option (List ℕ)) : Type 0 where
+pub record IsFedFrom {S : Type 0} (of : Rules S) (most : ℕ) (m : S) (input : List ℕ) (now : Seen S)
+    (told : Option (List ℕ)) : Type 0 where
   pub bytes : List ℕ
   pub rest : List ℕ
   pub whole : input ≡ bytes ++ rest
@@ -19,12 +20,14 @@ pub record IsFedFrom {S : Type 0} (of : Rules S) (most : ℕ) (m : S) (input : L
   pub left : told ≡ Some rest
 
 -- the read lacks some of its input
-pub record IsFedPart {S : Type 0} (of : Rules S) (most : ℕ) (m : S) (input : List ℕ) (now : Seen S) (told : Option (List ℕ)) : Type 0 where
+pub record IsFedPart {S : Type 0} (of : Rules S) (most : ℕ) (m : S) (input : List ℕ) (now : Seen S)
+    (told : Option (List ℕ)) : Type 0 where
   pub part : IsFedFrom of most m input now told
   pub fewer : length part.bytes < most
 
 -- the read has all of its input
-pub record IsFedWhole {S : Type 0} (of : Rules S) (most : ℕ) (m : S) (input : List ℕ) (now : Seen S) (told : Option (List ℕ)) : Type 0 where
+pub record IsFedWhole {S : Type 0} (of : Rules S) (most : ℕ) (m : S) (input : List ℕ) (now : Seen S)
+    (told : Option (List ℕ)) : Type 0 where
   pub part : IsFedFrom of most m input now told
   pub all : IsWholeRead most part.bytes part.rest
 
@@ -36,7 +39,8 @@ pub record IsDone {S : Type 0} (t : Turned S) (now : Seen S) (told : Option (Lis
 
 -- a turn on an input is done, and its bytes went to the buffer or to the sink; or a read failed; or the
 -- turn is done and a write failed; or the step lacked memory, and all is as before
-abbrev pub Serves : {S : Type 0} → Rules S → Result Unit Cut → S → List ℕ → Seen S → Option (List ℕ) → Option (List ℕ) → Option (List ℕ) → List ℕ → List ℕ → Type 0
+abbrev pub Serves : {S : Type 0} → Rules S → Result Unit Cut → S → List ℕ → Seen S → Option (List ℕ) → Option (List ℕ)
+    → Option (List ℕ) → List ℕ → List ℕ → Type 0
 Serves of (Ok done) m input now left told told' pending pending' =
     IsDone (of.turn input m) now left × Passes told told' pending pending' (of.turn input m).written
 Serves of (Err AtRead) m input now left told told' pending pending' =
@@ -70,6 +74,7 @@ Finishes (Ok (Illegal at n)) result before now pending = IsFlushed (Ok (Illegal 
 Finishes (Ok (Fault kind at n)) result before now pending = IsFlushed (Ok (Fault kind at n)) result before now pending
 Finishes (Ok Steps) result before now pending = IsFlushed (Ok Steps) result before now pending
 Finishes (Ok ReadFault) result before now pending = (result ≡ Ok ReadFault)
-    × (Appends before.told now.told pending ⊎ (Rose before.faults now.faults × AppendsPrefix before.told now.told pending))
+    × (Appends before.told now.told pending
+    ⊎ (Rose before.faults now.faults × AppendsPrefix before.told now.told pending))
 Finishes (Ok WriteFault) result before now pending = (result ≡ Ok WriteFault) × (now ≡ before)
 Finishes (Err lack) result before now pending = IsFlushed (Err lack) result before now pending

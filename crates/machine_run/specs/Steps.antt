@@ -58,5 +58,6 @@ IsWholeRead most bytes rest = (length bytes ≡ most) ⊎ (rest ≡ [])
 
 -- the read has all of its input and its turn is done
 abbrev pub EndsRead : {S : Type 0} → Rules S → Seen S → Seen S → Type 0
-EndsRead {S} of old new = (m : S) (len : ℕ) (bytes rest : List ℕ) → of.asks m ≡ Input len → old ≡ fed_with of len m bytes
+EndsRead {S} of old new = (m : S) (len : ℕ) (bytes rest : List ℕ) → of.asks m ≡ Input len
+    → old ≡ fed_with of len m bytes
     → IsWholeRead len bytes rest → of.turn (bytes ++ rest) m ≡ record { next = new.machine; written = []; left = rest }

@@ -57,8 +57,13 @@ fn feed_from<M: Machine, I: Source>(machine: &mut M, len: u32, input: &mut I) ->
     Ok(())
 }
 
-/// Completes a read from the source.
-fn read_from<M: Machine, I: Source>(machine: &mut M, len: u32, input: &mut I) -> Result<(), Failed>
+/// Completes a read of at most `len` bytes at which the machine waits: it is fed from the source until it has
+/// them all or nothing is left. After `Failed` it still waits, with what it was fed.
+pub fn read_from<M: Machine, I: Source>(
+    machine: &mut M,
+    len: u32,
+    input: &mut I,
+) -> Result<(), Failed>
     requires { (M.seen machine.old).waits ≡ Some (record { len = len; fed = 0 }) }
     ensures tells { TellsAlike (I.seen input.old).told (I.seen input.new).told }
     ensures later { (I.seen input.old).faults ≤ (I.seen input.new).faults }

@@ -2,7 +2,8 @@
 use Rattle.std.specs.Prelude.{◌≡◌, ℕ, ◌*◌, ◌/◌, ◌%◌, List, [], ◌∷◌, Bool, true, false, Option, Some, None, if◌then◌else◌, length, replicate, slice_get}
 use Rattle.sym_value.specs.declared.live.Life.{Life}
 use Rattle.sym_cells.specs.Cells.{Cell, blank_cell}
-use Rattle.sym_cells.specs.Memory.{Block, is_inside}
+use Rattle.sym_cells.specs.Buffers.{is_inside_one}
+use Rattle.sym_cells.specs.Memory.{Block}
 
 -- what contracts see of blocks: all of them, beside the end of the image
 pub record HeldBlocks : Type 0 where
@@ -36,8 +37,7 @@ AreKept (k ∷ lives) [] = ⊥
 
 -- the n bytes from an offset on can be reached
 abbrev pub reaches : ℕ → ℕ → Option Block → Bool
-reaches o n (Some k) = is_inside k o n
-reaches o n None = false
+reaches = is_inside_one
 
 -- a block that lives
 abbrev pub is_alive : Option Block → Bool

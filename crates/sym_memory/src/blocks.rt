@@ -1,10 +1,11 @@
 // The blocks of a run with their public calls, each over their lives and buffers.
 ghost use Rattle.std.specs.Prelude.{◌≡◌, ◌≢◌, ◌*◌, ◌<◌, ◌≤◌, [], ◌∷◌, ◌++◌, true, is_some, length, map, option_map, replicate, IfOk, OnErr, slice_get};
 ghost use Rattle.sym_cells.specs.Memory.{life_of, loaded_in, stored_in, known_in, set_block, overlaid_block, died};
+ghost use Rattle.sym_cells.specs.Buffers.{is_inside_one};
 ghost use Rattle.sym_cells.specs.Cells.{zero_cell};
 ghost use Rattle.sym_memory.specs.Kept.{HeldBlocks, is_alive};
 
-use crate::reaching::{copy_in, known_in, load_in, store_in};
+use crate::reaching::{can_reach, copy_in, known_in, load_in, store_in};
 use cell_buffer::CellBuffer;
 use rv_isa::Width;
 use std::alloc::{AllocError, Global};
@@ -71,6 +72,13 @@ impl Blocks {
         } }
     {
         store_in(&self.live, &mut self.buffers, block, width, offset, value)
+    }
+
+    /// Whether the block lives and has `len` bytes from an offset on.
+    pub fn can_reach(&self, block: u32, offset: u32, len: u32) -> bool
+        ensures { result ≡ is_inside_one offset len (slice_get self.now.blocks block) }
+    {
+        can_reach(&self.live, &self.buffers, block, offset, len as usize)
     }
 
     /// Makes a block of `need` granules of 16 bytes, which is zero; its name is how many there were.

@@ -10,8 +10,6 @@ mod parts;
 mod plain;
 mod reaching;
 mod spans;
-#[cfg(test)]
-mod tests;
 mod widths;
 
 pub use memory::SymMemory;

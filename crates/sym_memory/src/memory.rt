@@ -1,6 +1,7 @@
 // Symbol memory with its public calls: plain memory is reached by numbers, a block by pointers to it.
 ghost use Rattle.std.specs.Prelude.{◌≡◌, ◌≢◌, ◌<◌, ◌≤◌, true, is_some, length, IfOk, OnErr, slice_get};
 ghost use Rattle.sym_cells.specs.Memory.{live_of, loaded, stored, known, granted, copied, dropped};
+ghost use Rattle.sym_cells.specs.Buffers.{is_within};
 ghost use Rattle.elf_spec.specs.Memory.{image_end};
 ghost use Rattle.elf_spec.specs.Records.{segments_of};
 ghost use Rattle.sym_spec.specs.Plain.{is_plain, is_plain_store};
@@ -12,6 +13,7 @@ ghost use Rattle.sym_memory.specs.Held.{Held, memory_after};
 use crate::blocks::Blocks;
 use crate::image_parts::plain_parts;
 use crate::image_spans::{image_end, plain_spans};
+use crate::parts::Access;
 use crate::plain::Plain;
 use exec_image::Image;
 use rv_isa::Width;
@@ -98,6 +100,31 @@ impl SymMemory {
         match at {
             Value::Num(addr) => self.plain.store(width, addr, value),
             Value::Ptr { block, offset } => self.blocks.store(block, width, offset, value),
+            Value::Ret(_) | Value::Mix(_) | Value::Part { .. } | Value::Unset => false,
+        }
+    }
+
+    /// Whether the `len` bytes from an address on are plain, or in a living block to which it points.
+    #[tactic(auto, unfolding(sym_cells::specs::Buffers::is_within))]
+    pub fn can_reach(&self, at: Value, len: u32) -> bool
+        ensures { result ≡ is_within (is_plain_in self.now.parts) self.now.memory len at }
+    {
+        match at {
+            Value::Num(addr) => self.plain.allows_all(Access::Load, addr, len),
+            Value::Ptr { block, offset } => self.blocks.can_reach(block, offset, len),
+            Value::Ret(_) | Value::Mix(_) | Value::Part { .. } | Value::Unset => false,
+        }
+    }
+
+    /// Whether the `len` bytes from an address on can be stored to: plain ones that can, or bytes of a
+    /// living block to which it points.
+    #[tactic(auto, unfolding(sym_cells::specs::Buffers::is_within))]
+    pub fn can_fill(&self, at: Value, len: u32) -> bool
+        ensures { result ≡ is_within (is_storable_in self.now.parts) self.now.memory len at }
+    {
+        match at {
+            Value::Num(addr) => self.plain.allows_all(Access::Store, addr, len),
+            Value::Ptr { block, offset } => self.blocks.can_reach(block, offset, len),
             Value::Ret(_) | Value::Mix(_) | Value::Part { .. } | Value::Unset => false,
         }
     }

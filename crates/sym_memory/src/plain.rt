@@ -79,6 +79,13 @@ impl Plain {
         stores
     }
 
+    /// Whether each of `len` bytes from an address on allows an access.
+    pub fn allows_all(&self, access: Access, addr: u32, len: u32) -> bool
+        ensures { result ≡ all_from (allowed access self.now.parts) addr len }
+    {
+        are_allowed(&self.parts, access, addr as usize, len as usize)
+    }
+
     /// Whether an access is aligned, and each of its bytes allows it.
     fn allows(&self, access: Access, width: Width, addr: u32) -> bool
         ensures { result ≡ (is_aligned width addr && all_from (allowed access self.now.parts) addr (size_of width)) }

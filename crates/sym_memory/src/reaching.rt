@@ -10,7 +10,7 @@ use rv_isa::Width;
 use sym_value::{Live, Value};
 
 /// Whether a block lives and has `size` bytes from an offset on.
-fn can_reach(live: &Live, buffers: &[CellBuffer], block: u32, offset: u32, size: usize) -> bool
+pub fn can_reach(live: &Live, buffers: &[CellBuffer], block: u32, offset: u32, size: usize) -> bool
     requires kept { AreKept live.now.blocks buffers.now }
     requires small { size < 2 ^ 32 }
     ensures { result ≡ reaches offset size (slice_get (blocks_of live.now.blocks buffers.now) block) }

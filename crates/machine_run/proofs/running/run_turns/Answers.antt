@@ -20,29 +20,37 @@ loop-taken-init g c = record {
 pub returns-in-Err-AtRead-clause-run : goal.returns-in-Err-AtRead-clause-run
 returns-in-Err-AtRead-clause-run g c = λ left told.
     let h = rw c.in-Err-AtRead.field-0-is at c.in-Err-AtRead.ensures.turn in
-    ran_cut _ _ left _ _ _ _ _ _ _ _ _ _ _ (c.loop-taken.invariant.run left told) c.loop-taken.invariant.runs c.loop-taken-test.true h
+    ran_cut _ _ left _ _ _ _ _ _ _ _ _ _ _ (c.loop-taken.invariant.run left told) c.loop-taken.invariant.runs
+    c.loop-taken-test.true h
 
 pub returns-in-Err-AtWrite-clause-run : goal.returns-in-Err-AtWrite-clause-run
 returns-in-Err-AtWrite-clause-run g c = λ left told.
     let h = rw c.in-Err-AtWrite.field-0-is at c.in-Err-AtWrite.ensures.turn in
-    ran_stopped _ _ left _ _ _ _ _ _ _ _ _ _ c.serve.new.pending (c.loop-taken.invariant.run left told) c.loop-taken.invariant.runs c.loop-taken-test.true h
+    ran_stopped _ _ left _ _ _ _ _ _ _ _ _ _ c.serve.new.pending (c.loop-taken.invariant.run left told)
+    c.loop-taken.invariant.runs c.loop-taken-test.true h
 
 pub returns-in-Exit-clause-run : goal.returns-in-Exit-clause-run
 returns-in-Exit-clause-run g c = λ left told.
-    let r = ran_next _ _ left _ _ _ _ _ _ _ _ _ _ (c.loop-taken.invariant.run left told) c.loop-taken.invariant.runs c.in-Ok.ensures.turn in
-    let e = ends_at _ _ left _ c.args.steps _ _ _ _ _ _ r (sym c.in-Exit.ensures.is) (c.in-Exit.ensures.stays (λ h. (cc))) (omega arith) in
+    let r = ran_next _ _ left _ _ _ _ _ _ _ _ _ _ (c.loop-taken.invariant.run left told) c.loop-taken.invariant.runs
+    c.in-Ok.ensures.turn in
+    let e = ends_at _ _ left _ c.args.steps _ _ _ _ _ _ r (sym c.in-Exit.ensures.is)
+    (c.in-Exit.ensures.stays (λ h. (cc))) (omega arith) in
     record { taken = c.loop-taken.taken + 1; answer = (refl, e); runs = r.runs; leaves = r.leaves; output = r.output }
 
 pub returns-in-Illegal-clause-run : goal.returns-in-Illegal-clause-run
 returns-in-Illegal-clause-run g c = λ left told.
-    let r = ran_next _ _ left _ _ _ _ _ _ _ _ _ _ (c.loop-taken.invariant.run left told) c.loop-taken.invariant.runs c.in-Ok.ensures.turn in
-    let e = ends_at _ _ left _ c.args.steps _ _ _ _ _ _ r (sym c.in-Illegal.ensures.is) (c.in-Illegal.ensures.stays (λ h. (cc))) (omega arith) in
+    let r = ran_next _ _ left _ _ _ _ _ _ _ _ _ _ (c.loop-taken.invariant.run left told) c.loop-taken.invariant.runs
+    c.in-Ok.ensures.turn in
+    let e = ends_at _ _ left _ c.args.steps _ _ _ _ _ _ r (sym c.in-Illegal.ensures.is)
+    (c.in-Illegal.ensures.stays (λ h. (cc))) (omega arith) in
     record { taken = c.loop-taken.taken + 1; answer = (refl, e); runs = r.runs; leaves = r.leaves; output = r.output }
 
 pub returns-in-Fault-clause-run : goal.returns-in-Fault-clause-run
 returns-in-Fault-clause-run g c = λ left told.
-    let r = ran_next _ _ left _ _ _ _ _ _ _ _ _ _ (c.loop-taken.invariant.run left told) c.loop-taken.invariant.runs c.in-Ok.ensures.turn in
-    let e = ends_at _ _ left _ c.args.steps _ _ _ _ _ _ r (sym c.in-Fault.ensures.is) (c.in-Fault.ensures.stays (λ h. (cc))) (omega arith) in
+    let r = ran_next _ _ left _ _ _ _ _ _ _ _ _ _ (c.loop-taken.invariant.run left told) c.loop-taken.invariant.runs
+    c.in-Ok.ensures.turn in
+    let e = ends_at _ _ left _ c.args.steps _ _ _ _ _ _ r (sym c.in-Fault.ensures.is)
+    (c.in-Fault.ensures.stays (λ h. (cc))) (omega arith) in
     record { taken = c.loop-taken.taken + 1; answer = (refl, e); runs = r.runs; leaves = r.leaves; output = r.output }
 
 pub loop-taken-preserved : goal.loop-taken-preserved
@@ -53,11 +61,13 @@ loop-taken-preserved g c = record {
   input_tells = search rules;
   input_later = omega arith;
   more = omega arith;
-  counted = λ left told fits. draws_more left _ _ _ _ _ (c.loop-taken.invariant.counted left told fits) c.in-Ok.ensures.counted;
+  counted = λ left told fits. draws_more left _ _ _ _ _ (c.loop-taken.invariant.counted left told fits)
+      c.in-Ok.ensures.counted;
   out_tells = search rules;
   out_later = omega arith;
   run = λ left told.
-      ran_next _ _ left _ _ _ _ _ _ _ _ _ _ (c.loop-taken.invariant.run left told) c.loop-taken.invariant.runs c.in-Ok.ensures.turn;
+      ran_next _ _ left _ _ _ _ _ _ _ _ _ _ (c.loop-taken.invariant.run left told) c.loop-taken.invariant.runs
+      c.in-Ok.ensures.turn;
 }
 
 pub returns-clause-run : goal.returns-clause-run
@@ -87,7 +97,8 @@ returns-in-Fault-clause-counted g c = λ left told fits.
 pub returns-in-Err-NoMemory-clause-run : goal.returns-in-Err-NoMemory-clause-run
 returns-in-Err-NoMemory-clause-run g c = λ left told.
     let h = rw c.in-Err-NoMemory.field-0-is at c.in-Err-NoMemory.ensures.turn in
-    ran_lacking _ _ left _ _ _ _ _ _ _ _ _ _ _ _ (c.loop-taken.invariant.run left told) c.loop-taken.invariant.runs c.loop-taken-test.true (search rules) h
+    ran_lacking _ _ left _ _ _ _ _ _ _ _ _ _ _ _ (c.loop-taken.invariant.run left told) c.loop-taken.invariant.runs
+    c.loop-taken-test.true (search rules) h
 
 pub returns-in-Err-NoMemory-clause-counted : goal.returns-in-Err-NoMemory-clause-counted
 returns-in-Err-NoMemory-clause-counted g c = λ left told fits.

@@ -16,11 +16,13 @@ invariant-loop-taken g l = record {
   input_tells : TellsAlike (g.I.Source.seen l.fn.input).told (g.I.Source.seen l.input).told;
   input_later : (g.I.Source.seen l.fn.input).faults ≤ (g.I.Source.seen l.input).faults;
   more : (g.I.Source.seen l.fn.input).taken ≤ (g.I.Source.seen l.input).taken;
-  counted : (left : List ℕ) → (g.I.Source.seen l.fn.input).told ≡ Some left → (g.I.Source.seen l.fn.input).taken < 2 ^ 64
+  counted : (left : List ℕ) → (g.I.Source.seen l.fn.input).told ≡ Some left
+      → (g.I.Source.seen l.fn.input).taken < 2 ^ 64
       → Draws left (g.I.Source.seen l.input).told (g.I.Source.seen l.fn.input).taken (g.I.Source.seen l.input).taken;
   out_tells : TellsAlike (g.O.Sink.seen l.fn.out).told (g.O.Sink.seen l.out).told;
   out_later : (g.O.Sink.seen l.fn.out).faults ≤ (g.O.Sink.seen l.out).faults;
   run : (left : List ℕ) → (g.I.Source.seen l.fn.input).told ≡ Some left
-      → RanSoFar g.M.Machine.rules (g.M.Machine.seen l.fn.machine).machine left l.taken (g.M.Machine.seen l.machine) (g.I.Source.seen l.input).told
+      → RanSoFar g.M.Machine.rules (g.M.Machine.seen l.fn.machine).machine left l.taken (g.M.Machine.seen l.machine)
+      (g.I.Source.seen l.input).told
       (g.O.Sink.seen l.fn.out).told (g.O.Sink.seen l.out).told l.pending;
 }

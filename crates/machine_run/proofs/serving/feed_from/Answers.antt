@@ -24,17 +24,20 @@ returns-in_err-count-clause-part g c = err_kept _ _ _ _ _ _ _ _ _
 
 pub returns-in_err-count-clause-counted : goal.returns-in_err-count-clause-counted
 returns-in_err-count-clause-counted g c = λ left told fits.
-    draws_kept left _ _ _ _ _ (c.loop-fed.invariant.counted left told fits) c.in_err-count.ensures.kept c.in_err-count.ensures.none_taken
+    draws_kept left _ _ _ _ _ (c.loop-fed.invariant.counted left told fits) c.in_err-count.ensures.kept
+    c.in_err-count.ensures.none_taken
 
 pub returns-then-count-eq0-clause-counted : goal.returns-then-count-eq0-clause-counted
 returns-then-count-eq0-clause-counted g c = λ left told fits.
-    draws_next left _ _ _ _ _ _ _ _ (c.loop-fed.invariant.counted left told fits) c.in_ok-count.ensures.moved c.in_ok-count.ensures.counted
+    draws_next left _ _ _ _ _ _ _ _ (c.loop-fed.invariant.counted left told fits) c.in_ok-count.ensures.moved
+    c.in_ok-count.ensures.counted
 
 pub returns-then-count-eq0-clause-whole : goal.returns-then-count-eq0-clause-whole
 returns-then-count-eq0-clause-whole g c = λ m left is told.
     let room : 0 < length (take c.min-most.result c.loop-fed.buffer) =
     omega (arith, c.loop-fed.invariant.room, length-take c.min-most.result c.loop-fed.buffer) in
-    fed_end _ _ m left _ _ _ _ _ _ _ (c.loop-fed.invariant.told m left is told) c.in_ok-count.ensures.moved (search rules) room
+    fed_end _ _ m left _ _ _ _ _ _ _ (c.loop-fed.invariant.told m left is told) c.in_ok-count.ensures.moved
+    (search rules) room
 
 pub loop-fed-preserved : goal.loop-fed-preserved
 loop-fed-preserved g c =
@@ -51,16 +54,19 @@ loop-fed-preserved g c =
         length-drop c.min-most.result c.loop-fed.buffer,
         length-append c.read.new.into (drop c.min-most.result c.loop-fed.buffer),
       );
-      waits = still_waits _ _ _ _ (length piece) _ c.take_piece.ensures.waits c.loop-fed.invariant.waits (piece_long _ _ _ few);
+      waits = still_waits _ _ _ _ (length piece) _ c.take_piece.ensures.waits c.loop-fed.invariant.waits
+          (piece_long _ _ _ few);
       runs = c.take_piece.ensures.runs ∙ c.loop-fed.invariant.runs;
       lasts = c.take_piece.ensures.lasts ∙ c.loop-fed.invariant.lasts;
       tells = search rules;
       later = omega arith;
       more = omega arith;
       counted = λ left told fits.
-          draws_next left _ _ _ _ _ _ _ _ (c.loop-fed.invariant.counted left told fits) c.in_ok-count.ensures.moved c.in_ok-count.ensures.counted;
+          draws_next left _ _ _ _ _ _ _ _ (c.loop-fed.invariant.counted left told fits) c.in_ok-count.ensures.moved
+          c.in_ok-count.ensures.counted;
       told = λ m left is told.
-          fed_more _ _ m left _ _ _ _ _ _ _ _ _ _ (c.loop-fed.invariant.told m left is told) c.in_ok-count.ensures.moved refl c.take_piece.ensures.adds_up;
+          fed_more _ _ m left _ _ _ _ _ _ _ _ _ _ (c.loop-fed.invariant.told m left is told) c.in_ok-count.ensures.moved
+          refl c.take_piece.ensures.adds_up;
     }
 
 pub returns-clause-whole : goal.returns-clause-whole

@@ -18,9 +18,11 @@ invariant-loop-fed g l = record {
   tells : TellsAlike (g.I.Source.seen l.fn.input).told (g.I.Source.seen l.input).told;
   later : (g.I.Source.seen l.fn.input).faults ≤ (g.I.Source.seen l.input).faults;
   more : (g.I.Source.seen l.fn.input).taken ≤ (g.I.Source.seen l.input).taken;
-  counted : (left : List ℕ) → (g.I.Source.seen l.fn.input).told ≡ Some left → (g.I.Source.seen l.fn.input).taken < 2 ^ 64
+  counted : (left : List ℕ) → (g.I.Source.seen l.fn.input).told ≡ Some left
+      → (g.I.Source.seen l.fn.input).taken < 2 ^ 64
       → Draws left (g.I.Source.seen l.input).told (g.I.Source.seen l.fn.input).taken (g.I.Source.seen l.input).taken;
-  told : (m : g.M.Machine.State) (left : List ℕ) → g.M.Machine.seen l.fn.machine ≡ fed_with g.M.Machine.rules l.len m [] → (g.I.Source.seen l.fn.input).told ≡ Some left
+  told : (m : g.M.Machine.State) (left : List ℕ) → g.M.Machine.seen l.fn.machine ≡ fed_with g.M.Machine.rules l.len m []
+      → (g.I.Source.seen l.fn.input).told ≡ Some left
       → FedSoFar g.M.Machine.rules l.len m left l.fed (g.M.Machine.seen l.machine) (g.I.Source.seen l.input).told;
 }
 

@@ -11,5 +11,6 @@ loop-from-preserved g c = record {
   within = omega (arith, c.take_from-from.ensures.count);
   tells = search rules;
   later = omega arith;
-  passed = passes_taken _ _ _ _ _ _ _ _ _ _ c.loop-from.invariant.passed c.in_ok-make_room.ensures.whole c.take_from-from.ensures.taken;
+  passed = passes_taken _ _ _ _ _ _ _ _ _ _ c.loop-from.invariant.passed c.in_ok-make_room.ensures.whole
+      c.take_from-from.ensures.taken;
 }
