@@ -62,6 +62,3 @@ pub fn with_new_segments(
     push_contents(&mut out, end, segments)?;
     Ok(out)
 }
-
-#[cfg(test)]
-mod tests;

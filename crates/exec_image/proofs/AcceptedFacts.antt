@@ -26,6 +26,7 @@ use Rattle.exec_image.specs.Refusals.{already_rewritten, entry_out, exec_outside
 use Rattle.elf_read.specs.Elf.{IsReadable}
 use Rattle.exec_image.proofs.CodePlaces.{IsPlaced, all_placed, all_words}
 use Rattle.exec_image.proofs.Finding.{NoneBelow, found_in, found_passes, found_some}
+use Rattle.exec_image.proofs.HeapApart.{heap_apart}
 use Rattle.exec_image.proofs.ImageEnd.{ends_below, use_some}
 use Rattle.exec_image.proofs.Passed.{Passed, accepted_end, both_false, no_inner, none_both, not_when, passed}
 use Rattle.exec_image.proofs.PlanFits.{none_of_any}
@@ -43,13 +44,15 @@ yes false h = absurd (cc)
 part_alone : (o n p d m : ℕ) → is_shared o n d m ≡ false → o ≤ p → p + 4 ≤ o + n → is_shared p 4 d m ≡ false
 part_alone o n p d m h a b = grind (arith, nat_tests)
 
-word_bounds : (sa ss so a : ℕ) → (nat_le sa a && nat_le (a + 4) (sa + ss)) ≡ true → (so ≤ so + (a - sa)) × (so + (a - sa) + 4 ≤ so + ss) × (sa ≤ a) × (a + 4 ≤ sa + ss)
+word_bounds : (sa ss so a : ℕ) → (nat_le sa a && nat_le (a + 4) (sa + ss)) ≡ true
+    → (so ≤ so + (a - sa)) × (so + (a - sa) + 4 ≤ so + ss) × (sa ≤ a) × (a + 4 ≤ sa + ss)
 word_bounds sa ss so a h =
     let l : sa ≤ a = grind (arith, nat_tests) in
     let u : a + 4 ≤ sa + ss = grind (arith, nat_tests) in
     (omega arith, omega (arith, l, u), l, u)
 
-placed : (l x : Bool) (v f sa ss so go a : ℕ) → (l && (x && ((nat_le v sa && nat_le (sa + ss) (v + f)) && nat_eq (so + v) (go + sa)))) ≡ true
+placed : (l x : Bool) (v f sa ss so go a : ℕ)
+    → (l && (x && ((nat_le v sa && nat_le (sa + ss) (v + f)) && nat_eq (so + v) (go + sa)))) ≡ true
     → sa ≤ a → a + 4 ≤ sa + ss → (l ≡ true) × (x ≡ true) × (v ≤ a) × (a + 4 ≤ v + f) × (so + (a - sa) + v ≡ go + a)
 placed true true v f sa ss so go a h i j =
     let p : v ≤ sa = grind (arith, nat_tests) in
@@ -61,30 +64,40 @@ placed false x v f sa ss so go a h i j = absurd (cc)
 
 -- what a segment of code and its place in the file say of a word of an executable section
 word_there : (file : List ℕ) (a : ℕ) (s : Section) → ReadableFacts file → exec_outside file ≡ None → a % 4 ≡ 0
-    → find (λ s. is_executable s && holds_word a s) (sections_of file) ≡ Some s → IsCodeAt file a (s.offset + (a - s.addr))
+    → find (λ s. is_executable s && holds_word a s) (sections_of file) ≡ Some s
+    → IsCodeAt file a (s.offset + (a - s.addr))
 word_there file a s r h m f =
-    let (x, y) = split (is_executable s) (holds_word a s) (found_passes (λ s. is_executable s && holds_word a s) (sections_of file) s f) in
-    let (p, q) = found_in (λ s. is_executable s && holds_word a s) (IsPlaced file) (sections_of file) s f (all_placed file h) x in
+    let (x, y) = split (is_executable s) (holds_word a s)
+    (found_passes (λ s. is_executable s && holds_word a s) (sections_of file) s f) in
+    let (p, q) = found_in (λ s. is_executable s && holds_word a s) (IsPlaced file) (sections_of file) s f
+    (all_placed file h) x in
     let (g, t) = found_some (is_place_of s) (segments_of file) p in
     let (lo, hi, sl, sh) = word_bounds s.addr s.size s.offset a y in
-    let (l, k, v, u, o) = placed (is_loaded g) (is_set 1 g.flags) g.vaddr g.file_size s.addr s.size s.offset g.offset a (found_passes (is_place_of s) (segments_of file) g t) sl sh in
-    let i : IsInside (length file) g = found_in (is_place_of s) (IsLoadedInside (length file)) (segments_of file) g t r.segments l in
+    let (l, k, v, u, o) = placed (is_loaded g) (is_set 1 g.flags) g.vaddr g.file_size s.addr s.size s.offset g.offset a
+    (found_passes (is_place_of s) (segments_of file) g t) sl sh in
+    let i : IsInside (length file) g = found_in (is_place_of s) (IsLoadedInside (length file)) (segments_of file) g t
+    r.segments l in
     let (j, b, n, e, w) = Any-from_list_any (is_place_of s) (segments_of file) p in
-    let (c1, c2, c3, c4, c5) = placed (is_loaded b) (is_set 1 b.flags) b.vaddr b.file_size s.addr s.size s.offset b.offset a w sl sh in
+    let (c1, c2, c3, c4, c5) = placed (is_loaded b) (is_set 1 b.flags) b.vaddr b.file_size s.addr s.size s.offset
+    b.offset a w sl sh in
     record {
       aligned = m;
       inside = omega (arith, v, u, o, i.file);
       loaded = (j, b, n, e, (c1, c2, c3, c4, c5));
       plain = λ i d l.
-          part_alone s.offset s.size (s.offset + (a - s.addr)) (get_or (descriptions file) i d).0 (get_or (descriptions file) i d).1
+          part_alone s.offset s.size (s.offset + (a - s.addr)) (get_or (descriptions file) i d).0
+          (get_or (descriptions file) i d).1
           (none_of_any (λ d. is_shared s.offset s.size d.0 d.1) (descriptions file) q i d l) lo hi;
     }
 
-pub code_at : (file : List ℕ) (a place : ℕ) → ReadableFacts file → exec_outside file ≡ None → code_place file a ≡ Some place → IsCodeAt file a place
+pub code_at : (file : List ℕ) (a place : ℕ) → ReadableFacts file → exec_outside file ≡ None
+    → code_place file a ≡ Some place → IsCodeAt file a place
 unfolding code_place
-code_at file a place r h e = by_place (a % 4 == 0) (find (λ s. is_executable s && holds_word a s) (sections_of file)) refl refl e
+code_at file a place r h e = by_place (a % 4 == 0) (find (λ s. is_executable s && holds_word a s) (sections_of file))
+    refl refl e
   where
-    by_place : (b : Bool) (o : Option Section) → (a % 4 == 0) ≡ b → find (λ s. is_executable s && holds_word a s) (sections_of file) ≡ o
+    by_place : (b : Bool) (o : Option Section) → (a % 4 == 0) ≡ b
+        → find (λ s. is_executable s && holds_word a s) (sections_of file) ≡ o
         → (if b then option_map (λ s. s.offset + (a - s.addr)) o else None) ≡ Some place → IsCodeAt file a place
     by_place true (Some s) m f e =
         let w : s.offset + (a - s.addr) ≡ place = cc in
@@ -96,7 +109,8 @@ code_at file a place r h e = by_place (a % 4 == 0) (find (λ s. is_executable s 
 -- no byte of an executable section describes the file
 section_alone : (file : List ℕ) → exec_outside file ≡ None → All (IsAlone file) (sections_of file)
 section_alone file h = λ k d l e.
-    none_of_any (λ x. is_shared (get_or (sections_of file) k d).offset (get_or (sections_of file) k d).size x.0 x.1) (descriptions file) (all_placed file h k d l e).1
+    none_of_any (λ x. is_shared (get_or (sections_of file) k d).offset (get_or (sections_of file) k d).size x.0 x.1)
+    (descriptions file) (all_placed file h k d l e).1
 
 two_words : (file : List ℕ) (name : HeapName) → is_small file name ≡ false → HasTwoWords file name
 unfolding is_small
@@ -111,7 +125,8 @@ none_small : (file : List ℕ) (names : List HeapName) → small_of file names �
 none_small file [] h = All-nil (HasTwoWords file)
 none_small file (name ∷ names) h =
     let (a, b) = none_both (when (is_small file name) (HeapEntrySmall name)) (small_of file names) h in
-    All-cons (HasTwoWords file) name names (two_words file name (not_when (is_small file name) (HeapEntrySmall name) a)) (none_small file names b)
+    All-cons (HasTwoWords file) name names (two_words file name (not_when (is_small file name) (HeapEntrySmall name) a))
+    (none_small file names b)
 
 heap_words : (file : List ℕ) → heap_entry_small file ≡ None → (name : HeapName) → HasTwoWords file name
 unfolding heap_entry_small
@@ -131,15 +146,18 @@ heap_words file h name = by_name name
     by_name FreeR = all 7 Malloc (omega arith)
 
 -- a code word is below the image's end
-code_below : (file : List ℕ) (a place : ℕ) → ReadableFacts file → IsCodeAt file a place → a < image_end (segments_of file)
+code_below : (file : List ℕ) (a place : ℕ) → ReadableFacts file → IsCodeAt file a place
+    → a < image_end (segments_of file)
 code_below file a place r c =
     let (j, g, n, e, (l, x, v, u, o)) = c.loaded in
-    let end : g.vaddr + g.mem_size ≤ image_end (segments_of file) = subst (λ (g : Segment). g.vaddr + g.mem_size ≤ image_end (segments_of file)) e
+    let end : g.vaddr + g.mem_size ≤ image_end (segments_of file) =
+    subst (λ (g : Segment). g.vaddr + g.mem_size ≤ image_end (segments_of file)) e
     (ends_below (segments_of file) j g n (subst (λ (g : Segment). is_loaded g ≡ true) (sym e) l)) in
     let fits : g.file_size ≤ g.mem_size = (subst (IsLoadedInside (length file)) e (r.segments j g n) l).fits in
     omega (arith, end, fits, u)
 
-no_use : NoneBelow → (file : List ℕ) → ReadableFacts file → exec_outside file ≡ None → tp_used file ≡ None → (a : ℕ) → uses_tp_at file a ≡ false
+no_use : NoneBelow → (file : List ℕ) → ReadableFacts file → exec_outside file ≡ None → tp_used file ≡ None → (a : ℕ)
+    → uses_tp_at file a ≡ false
 unfolding tp_used
 no_use none_below file r h n a = by_use (uses_tp_at file a) refl
   where
@@ -151,8 +169,10 @@ no_use none_below file r h n a = by_use (uses_tp_at file a) refl
     by_use true e = by_place (code_place file a) refl
       where
         by_place : (o : Option ℕ) → code_place file a ≡ o → uses_tp_at file a ≡ false
-        by_place (Some place) q = (none_below (uses_tp_at file) (image_end (segments_of file))).0 none a (code_below file a place r (code_at file a place r h q))
-        by_place None q = absurd (let t : is_some (code_place file a) ≡ true = use_some file a e in let f : false ≡ true = rw q at t in cc)
+        by_place (Some place) q = (none_below (uses_tp_at file) (image_end (segments_of file))).0 none a
+            (code_below file a place r (code_at file a place r h q))
+        by_place None q = absurd (let t : is_some (code_place file a) ≡ true = use_some file a e in
+            let f : false ≡ true = rw q at t in cc)
 
 record HasRoom (file : List ℕ) : Type 0 where
   few : e_phnum file ≤ 64
@@ -164,7 +184,8 @@ room file h =
     let (a, h1) = none_both (when (nat_lt 64 (e_phnum file)) (ImageTooLarge Headers)) _ h in
     let (b, c) = none_both (when (nat_lt 67108864 (memory_size (segments_of file))) (ImageTooLarge Bytes)) _ h1 in
     let x : nat_lt 64 (e_phnum file) ≡ false = not_when (nat_lt 64 (e_phnum file)) (ImageTooLarge Headers) a in
-    let y : nat_lt 67108864 (memory_size (segments_of file)) ≡ false = not_when (nat_lt 67108864 (memory_size (segments_of file))) (ImageTooLarge Bytes) b in
+    let y : nat_lt 67108864 (memory_size (segments_of file)) ≡ false =
+    not_when (nat_lt 67108864 (memory_size (segments_of file))) (ImageTooLarge Bytes) b in
     record { few = at_most 64 (e_phnum file) x; memory = at_most 67108864 (memory_size (segments_of file)) y }
   where
     at_most : (m n : ℕ) → nat_lt m n ≡ false → n ≤ m
@@ -172,13 +193,16 @@ room file h =
 
 entry_in : (file : List ℕ) → entry_out file ≡ None → is_some (code_word file (e_entry file)) ≡ true
 unfolding entry_out
-entry_in file h = yes (is_some (code_word file (e_entry file))) (not_when (not (is_some (code_word file (e_entry file)))) (EntryOut (e_entry file)) h)
+entry_in file h = yes (is_some (code_word file (e_entry file)))
+    (not_when (not (is_some (code_word file (e_entry file)))) (EntryOut (e_entry file)) h)
 
 no_mark : (file : List ℕ) → already_rewritten file ≡ None → All (λ g. has_mark file g ≡ false) (segments_of file)
 unfolding already_rewritten
-no_mark file h = none_of_any (has_mark file) (segments_of file) (not_when (list_any (has_mark file) (segments_of file)) AlreadyRewritten h)
+no_mark file h = none_of_any (has_mark file) (segments_of file)
+    (not_when (list_any (has_mark file) (segments_of file)) AlreadyRewritten h)
 
-pub accepted_facts : ((file : List ℕ) → IsReadable file → ReadableFacts file) → NoneBelow → (file : List ℕ) → IsAccepted file → AcceptedFacts file
+pub accepted_facts : ((file : List ℕ) → IsReadable file → ReadableFacts file) → NoneBelow → (file : List ℕ)
+    → IsAccepted file → AcceptedFacts file
 accepted_facts readable none_below file h =
     let p : Passed file = passed file h in
     let q : HasRoom file = room file p.room in
@@ -191,6 +215,7 @@ accepted_facts readable none_below file h =
       sections = section_alone file p.inside;
       entry = entry_in file p.entry;
       heap = heap_words file p.large;
+      heap_apart = heap_apart file p.once;
       unmarked = no_mark file p.unmarked;
       few = q.few;
       memory = q.memory;

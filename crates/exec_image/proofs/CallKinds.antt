@@ -25,7 +25,8 @@ one_kind n k b = ap (λ x. x && b) (decide (nat_eq k n) refl)
     decide true e = grind (arith, nat_tests)
     decide false e = grind (arith, nat_tests)
 
-pub one : (relocs : List Reloc) (a : ℕ) → list_any (λ r. is_kind 17 17 r && (r.place == a)) relocs ≡ has_reloc relocs 17 a
+pub one : (relocs : List Reloc) (a : ℕ)
+    → list_any (λ r. is_kind 17 17 r && (r.place == a)) relocs ≡ has_reloc relocs 17 a
 one relocs a =
     any_same (λ r. is_kind 17 17 r && (r.place == a)) (λ r. (r.kind == 17) && (r.place == a)) relocs
     (λ k d l. let r : Reloc = get_or relocs k d in one_kind 17 r.kind (r.place == a))
@@ -34,32 +35,42 @@ two_kinds : (k : ℕ) (b : Bool) → ((nat_le 18 k && nat_le k 19) && b) ≡ ((n
 two_kinds k true = grind (arith, nat_tests)
 two_kinds k false = grind (arith, nat_tests)
 
-pub two : (relocs : List Reloc) (a : ℕ) → list_any (λ r. is_kind 18 19 r && (r.place == a)) relocs ≡ (has_reloc relocs 18 a || has_reloc relocs 19 a)
+pub two : (relocs : List Reloc) (a : ℕ)
+    → list_any (λ r. is_kind 18 19 r && (r.place == a)) relocs ≡ (has_reloc relocs 18 a || has_reloc relocs 19 a)
 two relocs a =
-    any_same (λ r. is_kind 18 19 r && (r.place == a)) (λ r. ((r.kind == 18) && (r.place == a)) || ((r.kind == 19) && (r.place == a))) relocs
+    any_same (λ r. is_kind 18 19 r && (r.place == a))
+    (λ r. ((r.kind == 18) && (r.place == a)) || ((r.kind == 19) && (r.place == a))) relocs
     (λ k d l. let r : Reloc = get_or relocs k d in two_kinds r.kind (r.place == a))
     ∙ any_or (λ r. (r.kind == 18) && (r.place == a)) (λ r. (r.kind == 19) && (r.place == a)) relocs
 
-three_kinds : (k : ℕ) (b : Bool) → ((nat_le 17 k && nat_le k 19) && b) ≡ ((nat_eq k 17 && b) || ((nat_eq k 18 && b) || (nat_eq k 19 && b)))
+three_kinds : (k : ℕ) (b : Bool) → ((nat_le 17 k && nat_le k 19) && b)
+    ≡ ((nat_eq k 17 && b) || ((nat_eq k 18 && b) || (nat_eq k 19 && b)))
 three_kinds k true = grind (arith, nat_tests)
 three_kinds k false = grind (arith, nat_tests)
 
 pub three : (relocs : List Reloc) (a : ℕ)
-    → list_any (λ r. is_kind 17 19 r && (r.place == a)) relocs ≡ (has_reloc relocs 17 a || (has_reloc relocs 18 a || has_reloc relocs 19 a))
+    → list_any (λ r. is_kind 17 19 r && (r.place == a)) relocs
+    ≡ (has_reloc relocs 17 a || (has_reloc relocs 18 a || has_reloc relocs 19 a))
 three relocs a =
-    any_same (λ r. is_kind 17 19 r && (r.place == a)) (λ r. ((r.kind == 17) && (r.place == a)) || (((r.kind == 18) && (r.place == a)) || ((r.kind == 19) && (r.place == a)))) relocs
+    any_same (λ r. is_kind 17 19 r && (r.place == a))
+    (λ r. ((r.kind == 17) && (r.place == a))
+    || (((r.kind == 18) && (r.place == a)) || ((r.kind == 19) && (r.place == a)))) relocs
     (λ k d l. let r : Reloc = get_or relocs k d in three_kinds r.kind (r.place == a))
-    ∙ any_or (λ r. (r.kind == 17) && (r.place == a)) (λ r. ((r.kind == 18) && (r.place == a)) || ((r.kind == 19) && (r.place == a))) relocs
-    ∙ ap (λ b. has_reloc relocs 17 a || b) (any_or (λ r. (r.kind == 18) && (r.place == a)) (λ r. (r.kind == 19) && (r.place == a)) relocs)
+    ∙ any_or (λ r. (r.kind == 17) && (r.place == a))
+    (λ r. ((r.kind == 18) && (r.place == a)) || ((r.kind == 19) && (r.place == a))) relocs
+    ∙ ap (λ b. has_reloc relocs 17 a || b)
+    (any_or (λ r. (r.kind == 18) && (r.place == a)) (λ r. (r.kind == 19) && (r.place == a)) relocs)
 
 -- lists on which each test says the same have the same calls
-pub calls_same : (xs ys : List Reloc) (calls : Calls) → ((p : Reloc → Bool) → list_any p xs ≡ list_any p ys) → AreCalls xs calls → AreCalls ys calls
+pub calls_same : (xs ys : List Reloc) (calls : Calls) → ((p : Reloc → Bool) → list_any p xs ≡ list_any p ys)
+    → AreCalls xs calls → AreCalls ys calls
 calls_same xs ys calls h c =
     record {
       jals_rise = c.jals_rise;
       jals = λ a. c.jals a ∙ kind 17 a;
       pairs_rise = c.pairs_rise;
-      pairs = λ a. c.pairs a ∙ ap (λ b. b || has_reloc xs 19 a) (kind 18 a) ∙ ap (λ b. has_reloc ys 18 a || b) (kind 19 a);
+      pairs = λ a. c.pairs a ∙ ap (λ b. b || has_reloc xs 19 a) (kind 18 a)
+          ∙ ap (λ b. has_reloc ys 18 a || b) (kind 19 a);
       all_rise = c.all_rise;
       all = λ a.
           c.all a ∙ ap (λ b. b || (has_reloc xs 18 a || has_reloc xs 19 a)) (kind 17 a)

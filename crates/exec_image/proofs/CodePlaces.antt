@@ -23,7 +23,8 @@ use Rattle.exec_image.proofs.Finding.{any_of_kept, any_same, found_alike, found_
 use Rattle.exec_image.proofs.Meeting.{meets_same}
 
 -- what the passed checks say of each executable section
-no_place : {X : Type 0} (f : ℕ → FileRefusal) (p : X → Bool) (xs : List X) → option_map f (position p xs) ≡ None → All (λ x. p x ≡ false) xs
+no_place : {X : Type 0} (f : ℕ → FileRefusal) (p : X → Bool) (xs : List X) → option_map f (position p xs) ≡ None
+    → All (λ x. p x ≡ false) xs
 no_place f p xs h = none_passes p xs (none_of (position p xs) h)
   where
     none_of : (o : Option ℕ) → option_map f o ≡ None → o ≡ None
@@ -38,10 +39,12 @@ pub all_words : (sections : List Section) → exec_not_words sections ≡ None �
 unfolding exec_not_words
 all_words sections h = λ k d l e.
     let s : Section = get_or sections k d in
-    words_of (is_executable s) (s.addr % 4) (s.size % 4) (no_place ExecNotWords (λ s. is_executable s && is_not_words s) sections h k d l) e
+    words_of (is_executable s) (s.addr % 4) (s.size % 4)
+    (no_place ExecNotWords (λ s. is_executable s && is_not_words s) sections h k d l) e
 
 abbrev pub IsPlaced : List ℕ → Section → Type 0
-IsPlaced file s = is_executable s ≡ true → (list_any (is_place_of s) (segments_of file) ≡ true) × (is_in_descriptions file s ≡ false)
+IsPlaced file s = is_executable s ≡ true
+    → (list_any (is_place_of s) (segments_of file) ≡ true) × (is_in_descriptions file s ≡ false)
 
 placed_of : (b c d : Bool) → (b && (not c || d)) ≡ false → b ≡ true → (c ≡ true) × (d ≡ false)
 placed_of true true false h e = (refl, refl)
@@ -59,9 +62,11 @@ all_placed file h = λ k d l e.
 -- an aligned address is in a section of whole words exactly where its whole word is
 same_word : (a start size : ℕ) → a % 4 ≡ 0 → start % 4 ≡ 0 → size % 4 ≡ 0
     → (nat_lt start (a + 1) && nat_lt a (start + size)) ≡ (nat_le start a && nat_le (a + 4) (start + size))
-same_word a start size h i j = decide (nat_lt start (a + 1) && nat_lt a (start + size)) (nat_le start a && nat_le (a + 4) (start + size)) refl refl
+same_word a start size h i j = decide (nat_lt start (a + 1) && nat_lt a (start + size))
+    (nat_le start a && nat_le (a + 4) (start + size)) refl refl
   where
-    decide : (b c : Bool) → (nat_lt start (a + 1) && nat_lt a (start + size)) ≡ b → (nat_le start a && nat_le (a + 4) (start + size)) ≡ c
+    decide : (b c : Bool) → (nat_lt start (a + 1) && nat_lt a (start + size)) ≡ b
+        → (nat_le start a && nat_le (a + 4) (start + size)) ≡ c
         → (nat_lt start (a + 1) && nat_lt a (start + size)) ≡ (nat_le start a && nat_le (a + 4) (start + size))
     decide true true e f = e ∙ sym f
     decide false false e f = e ∙ sym f
@@ -74,22 +79,28 @@ same_word a start size h i j = decide (nat_lt start (a + 1) && nat_lt a (start +
         absurd (let g : true ≡ false = grind (arith, nat_tests) in cc)
 
 same_tests : (a : ℕ) → a % 4 ≡ 0 → (s : Section) → IsWords s
-    → (is_executable s && is_meeting a (a + 1) (record { start = s.addr; end = s.addr + s.size })) ≡ (is_executable s && holds_word a s)
+    → (is_executable s && is_meeting a (a + 1) (record { start = s.addr; end = s.addr + s.size }))
+    ≡ (is_executable s && holds_word a s)
 same_tests a h s w = decide (is_executable s) refl
   where
     decide : (b : Bool) → is_executable s ≡ b
-        → (is_executable s && is_meeting a (a + 1) (record { start = s.addr; end = s.addr + s.size })) ≡ (is_executable s && holds_word a s)
+        → (is_executable s && is_meeting a (a + 1) (record { start = s.addr; end = s.addr + s.size }))
+        ≡ (is_executable s && holds_word a s)
     decide true e = let (i, j) = w e in rw e (same_word a s.addr s.size h i j)
     decide false e = rw e refl
 
 -- the parts in order have an aligned address exactly where a section has its word
-pub in_parts : (file : List ℕ) (segments : List Segment) (code : List Part) (a : ℕ) → IsCode file segments code → a % 4 ≡ 0
+pub in_parts : (file : List ℕ) (segments : List Segment) (code : List Part) (a : ℕ) → IsCode file segments code
+    → a % 4 ≡ 0
     → list_any (is_meeting a (a + 1)) code ≡ list_any (λ s. is_executable s && holds_word a s) (sections_of file)
 in_parts file segments code a h m =
     meets_same a (a + 1) (code_parts (sections_of file)) code h.parts
-    ∙ any_of_kept is_executable (λ s. record { start = s.addr; end = s.addr + s.size }) (is_meeting a (a + 1)) (sections_of file)
-    ∙ any_same (λ s. is_executable s && is_meeting a (a + 1) (record { start = s.addr; end = s.addr + s.size })) (λ s. is_executable s && holds_word a s)
-    (sections_of file) (λ k d l. same_tests a m (get_or (sections_of file) k d) (all_words (sections_of file) h.words k d l))
+    ∙ any_of_kept is_executable (λ s. record { start = s.addr; end = s.addr + s.size }) (is_meeting a (a + 1))
+    (sections_of file)
+    ∙ any_same (λ s. is_executable s && is_meeting a (a + 1) (record { start = s.addr; end = s.addr + s.size }))
+    (λ s. is_executable s && holds_word a s)
+    (sections_of file) (λ k d l. same_tests a m (get_or (sections_of file) k d)
+    (all_words (sections_of file) h.words k d l))
 
 -- two loaded segments that have an address in common meet
 both_hold : (a : ℕ) (bytes : ℕ) (s t : Segment) → IsLoadedInside bytes s → IsLoadedInside bytes t → meets s t ≡ false
@@ -97,7 +108,8 @@ both_hold : (a : ℕ) (bytes : ℕ) (s t : Segment) → IsLoadedInside bytes s �
 both_hold a bytes s t i j m p q =
     let (ls, us) = split (is_loaded s) _ p in
     let (lt, ut) = split (is_loaded t) _ q in
-    let g : true ≡ false = sym (shared s.vaddr s.mem_size s.file_size t.vaddr t.mem_size t.file_size (is_loaded s) (is_loaded t) _ ls lt us ut (i ls).fits (j lt).fits) ∙ m in
+    let g : true ≡ false = sym (shared s.vaddr s.mem_size s.file_size t.vaddr t.mem_size t.file_size (is_loaded s)
+    (is_loaded t) _ ls lt us ut (i ls).fits (j lt).fits) ∙ m in
     cc
   where
     split : (b c : Bool) → (b && c) ≡ true → (b ≡ true) × (c ≡ true)
@@ -105,7 +117,8 @@ both_hold a bytes s t i j m p q =
     split true false e = absurd (cc)
     split false c e = absurd (cc)
 
-    shared : (v m f w n g : ℕ) (b c r : Bool) → b ≡ true → c ≡ true → (nat_le v a && nat_lt a (v + f)) ≡ true → (nat_le w a && nat_lt a (w + g)) ≡ true
+    shared : (v m f w n g : ℕ) (b c r : Bool) → b ≡ true → c ≡ true → (nat_le v a && nat_lt a (v + f)) ≡ true
+        → (nat_le w a && nat_lt a (w + g)) ≡ true
         → f ≤ m → g ≤ n → ((b && c) && (is_shared v m w n || r)) ≡ true
     shared v m f w n g true true r x y p q i j =
         let e : is_shared v m w n ≡ true = grind (arith, nat_tests) in rw e refl
@@ -125,8 +138,10 @@ split true false e = absurd (cc)
 split false c e = absurd (cc)
 
 -- the segment that places a section holds each of its addresses
-place_holds : (l x : Bool) (v f sa ss so go a : ℕ) → (l && (x && ((nat_le v sa && nat_le (sa + ss) (v + f)) && nat_eq (so + v) (go + sa)))) ≡ true
-    → sa ≤ a → a < sa + ss → (l ≡ true) × ((l && (nat_le v a && nat_lt a (v + f))) ≡ true) × (so + v ≡ go + sa) × (v ≤ sa) × (sa + ss ≤ v + f)
+place_holds : (l x : Bool) (v f sa ss so go a : ℕ)
+    → (l && (x && ((nat_le v sa && nat_le (sa + ss) (v + f)) && nat_eq (so + v) (go + sa)))) ≡ true
+    → sa ≤ a → a < sa + ss → (l ≡ true) × ((l && (nat_le v a && nat_lt a (v + f))) ≡ true) × (so + v ≡ go + sa)
+    × (v ≤ sa) × (sa + ss ≤ v + f)
 place_holds true true v f sa ss so go a h i j =
     (refl, grind (arith, nat_tests), grind (arith, nat_tests), grind (arith, nat_tests), grind (arith, nat_tests))
 place_holds true false v f sa ss so go a h i j = absurd (cc)
@@ -138,27 +153,36 @@ word_in sa ss a h = (grind (arith, nat_tests), grind (arith, nat_tests))
 offsets : (so go v sa a : ℕ) → so + v ≡ go + sa → v ≤ sa → sa ≤ a → go + (a - v) ≡ so + (a - sa)
 offsets so go v sa a h i j = omega arith
 
-ends : (so go v f m sa ss a bytes : ℕ) → so + v ≡ go + sa → v ≤ sa → sa + ss ≤ v + f → sa ≤ a → a + 4 ≤ sa + ss → f ≤ m → go + f ≤ bytes → v + m ≤ 0x7ff00000
+ends : (so go v f m sa ss a bytes : ℕ) → so + v ≡ go + sa → v ≤ sa → sa + ss ≤ v + f → sa ≤ a → a + 4 ≤ sa + ss → f ≤ m
+    → go + f ≤ bytes → v + m ≤ 0x7ff00000
     → (so + (a - sa) + 4 ≤ bytes) × (a + 4 ≤ 0x7ff00000)
 ends so go v f m sa ss a bytes h i j k l n o p = (omega arith, omega arith)
 
 -- the place of a code word that a section has and a segment puts there
-pub place_of : (file : List ℕ) (segments : List Segment) (code : List Part) (a : ℕ) → IsCode file segments code → a % 4 ≡ 0 → (s : Section)
-    → find (λ s. is_executable s && holds_word a s) (sections_of file) ≡ Some s → (g : Segment) → find (is_place_of s) (segments_of file) ≡ Some g
+pub place_of : (file : List ℕ) (segments : List Segment) (code : List Part) (a : ℕ) → IsCode file segments code
+    → a % 4 ≡ 0 → (s : Section)
+    → find (λ s. is_executable s && holds_word a s) (sections_of file) ≡ Some s → (g : Segment)
+    → find (is_place_of s) (segments_of file) ≡ Some g
     → IsCodePlace file segments a (s.offset + (a - s.addr))
 unfolding code_place
 place_of file segments code a h m s e g f =
-    let (x, y) = split (is_executable s) (holds_word a s) (found_passes (λ s. is_executable s && holds_word a s) (sections_of file) s e) in
+    let (x, y) = split (is_executable s) (holds_word a s)
+    (found_passes (λ s. is_executable s && holds_word a s) (sections_of file) s e) in
     let (lo, hi) = word_in s.addr s.size a y in
     let q : is_place_of s g ≡ true = found_passes (is_place_of s) (segments_of file) g f in
     let weaker : (t : Segment) → is_place_of s t ≡ true → holds_in_file a t ≡ true =
-    λ t u. let (l, k, r, z, w) = place_holds (is_loaded t) (is_set 1 t.flags) t.vaddr t.file_size s.addr s.size s.offset t.offset a u lo (omega (arith, hi)) in k in
-    let (l, k, r, z, w) = place_holds (is_loaded g) (is_set 1 g.flags) g.vaddr g.file_size s.addr s.size s.offset g.offset a q lo (omega (arith, hi)) in
-    let i : IsInside (length file) g = found_in (is_place_of s) (IsLoadedInside (length file)) (segments_of file) g f h.facts.segments l in
+    λ t u. let (l, k, r, z, w) = place_holds (is_loaded t) (is_set 1 t.flags) t.vaddr t.file_size s.addr s.size s.offset
+    t.offset a u lo (omega (arith, hi)) in k in
+    let (l, k, r, z, w) = place_holds (is_loaded g) (is_set 1 g.flags) g.vaddr g.file_size s.addr s.size s.offset
+    g.offset a q lo (omega (arith, hi)) in
+    let i : IsInside (length file) g = found_in (is_place_of s) (IsLoadedInside (length file)) (segments_of file) g f
+    h.facts.segments l in
     let found : find (holds_in_file a) (segments_of file) ≡ Some g =
-    found_alike (holds_in_file a) (is_place_of s) (λ s t. meets s t ≡ false) (IsLoadedInside (length file)) (both_hold a (length file)) weaker (segments_of file)
+    found_alike (holds_in_file a) (is_place_of s) (λ s t. meets s t ≡ false) (IsLoadedInside (length file))
+    (both_hold a (length file)) weaker (segments_of file)
     h.facts.segments h.facts.apart g f in
-    let (n, o) = ends s.offset g.offset g.vaddr g.file_size g.mem_size s.addr s.size a (length file) r z w lo hi i.fits i.file i.memory in
+    let (n, o) = ends s.offset g.offset g.vaddr g.file_size g.mem_size s.addr s.size a (length file) r z w lo hi i.fits
+    i.file i.memory in
     let aligned : (a % 4 == 0) ≡ true = grind (arith, nat_tests) in
     record {
       place = rw (aligned, e) refl;
@@ -167,22 +191,29 @@ place_of file segments code a h m s e g f =
       low = o;
     }
 
-pub code_yes : (file : List ℕ) (segments : List Segment) (code : List Part) (a : ℕ) → IsCode file segments code → a % 4 ≡ 0
+pub code_yes : (file : List ℕ) (segments : List Segment) (code : List Part) (a : ℕ) → IsCode file segments code
+    → a % 4 ≡ 0
     → list_any (is_meeting a (a + 1)) code ≡ true → (at : ℕ) × IsCodePlace file segments a at
 code_yes file segments code a h m e =
-    let e' : list_any (λ s. is_executable s && holds_word a s) (sections_of file) ≡ true = sym (in_parts file segments code a h m) ∙ e in
+    let e' : list_any (λ s. is_executable s && holds_word a s) (sections_of file) ≡ true =
+    sym (in_parts file segments code a h m) ∙ e in
     let (s, f) = found_some (λ s. is_executable s && holds_word a s) (sections_of file) e' in
-    let (x, y) = split (is_executable s) (holds_word a s) (found_passes (λ s. is_executable s && holds_word a s) (sections_of file) s f) in
-    let (p, q) = found_in (λ s. is_executable s && holds_word a s) (IsPlaced file) (sections_of file) s f (all_placed file h.inside) x in
+    let (x, y) = split (is_executable s) (holds_word a s)
+    (found_passes (λ s. is_executable s && holds_word a s) (sections_of file) s f) in
+    let (p, q) = found_in (λ s. is_executable s && holds_word a s) (IsPlaced file) (sections_of file) s f
+    (all_placed file h.inside) x in
     let (g, t) = found_some (is_place_of s) (segments_of file) p in
     (s.offset + (a - s.addr), place_of file segments code a h m s f g t)
 
-pub code_no : (file : List ℕ) (segments : List Segment) (code : List Part) (a : ℕ) → IsCode file segments code → a % 4 ≡ 0
+pub code_no : (file : List ℕ) (segments : List Segment) (code : List Part) (a : ℕ) → IsCode file segments code
+    → a % 4 ≡ 0
     → list_any (is_meeting a (a + 1)) code ≡ false → code_place file a ≡ None
 unfolding code_place
 code_no file segments code a h m e =
-    let e' : list_any (λ s. is_executable s && holds_word a s) (sections_of file) ≡ false = sym (in_parts file segments code a h m) ∙ e in
-    let f : find (λ s. is_executable s && holds_word a s) (sections_of file) ≡ None = found_none (λ s. is_executable s && holds_word a s) (sections_of file) e' in
+    let e' : list_any (λ s. is_executable s && holds_word a s) (sections_of file) ≡ false =
+    sym (in_parts file segments code a h m) ∙ e in
+    let f : find (λ s. is_executable s && holds_word a s) (sections_of file) ≡ None =
+    found_none (λ s. is_executable s && holds_word a s) (sections_of file) e' in
     let aligned : (a % 4 == 0) ≡ true = grind (arith, nat_tests) in
     rw (aligned, f) refl
 
@@ -206,20 +237,24 @@ code_test file segments code a h = decide (a % 4 == 0) (list_any (is_meeting a (
     decide false c e f = rw (e, code_odd file a e) refl
 
 -- what is known of a code word
-pub known : (file : List ℕ) (segments : List Segment) (code : List Part) (a : ℕ) → IsCode file segments code → is_some (code_place file a) ≡ true
+pub known : (file : List ℕ) (segments : List Segment) (code : List Part) (a : ℕ) → IsCode file segments code
+    → is_some (code_place file a) ≡ true
     → (at : ℕ) × IsCodePlace file segments a at
 known file segments code a h e = decide (a % 4 == 0) (list_any (is_meeting a (a + 1)) code) refl refl
   where
-    decide : (b c : Bool) → (a % 4 == 0) ≡ b → list_any (is_meeting a (a + 1)) code ≡ c → (at : ℕ) × IsCodePlace file segments a at
+    decide : (b c : Bool) → (a % 4 == 0) ≡ b → list_any (is_meeting a (a + 1)) code ≡ c
+        → (at : ℕ) × IsCodePlace file segments a at
     decide true true f g = let m : a % 4 ≡ 0 = grind (arith, nat_tests) in code_yes file segments code a h m g
     decide true false f g = absurd (let t : false ≡ true = rw (f, g) at (code_test file segments code a h ∙ e) in cc)
     decide false c f g = absurd (let t : false ≡ true = rw f at (code_test file segments code a h ∙ e) in cc)
 
-pub place_exact : (file : List ℕ) (segments : List Segment) (code : List Part) (a : ℕ) → IsCode file segments code → is_some (code_place file a) ≡ true
+pub place_exact : (file : List ℕ) (segments : List Segment) (code : List Part) (a : ℕ) → IsCode file segments code
+    → is_some (code_place file a) ≡ true
     → place_in segments a ≡ code_place file a
 place_exact file segments code a h e = let (at, k) = known file segments code a h e in k.looked_up ∙ sym k.place
 
-pub place_inside : (file : List ℕ) (segments : List Segment) (code : List Part) (a at : ℕ) → IsCode file segments code → code_place file a ≡ Some at
+pub place_inside : (file : List ℕ) (segments : List Segment) (code : List Part) (a at : ℕ) → IsCode file segments code
+    → code_place file a ≡ Some at
     → (at + 4 ≤ length file) × (a + 4 ≤ 0x7ff00000)
 place_inside file segments code a at h e =
     let (at', k) = known file segments code a h (rw e refl) in
@@ -227,7 +262,8 @@ place_inside file segments code a at h e =
     let g : at' ≡ at = cc in
     (rw (sym g) k.inside, k.low)
 
-pub place_some : (file : List ℕ) (segments : List Segment) (code : List Part) (a : ℕ) (o : Option ℕ) → IsCode file segments code → o ≡ code_place file a
+pub place_some : (file : List ℕ) (segments : List Segment) (code : List Part) (a : ℕ) (o : Option ℕ)
+    → IsCode file segments code → o ≡ code_place file a
     → IfSome o (λ at. at + 4 ≤ length file) × IfSome o (λ at. a + 4 ≤ 0x7ff00000)
 place_some file segments code a (Some at) h e = place_inside file segments code a at h (sym e)
 place_some file segments code a None h e = (search rules, search rules)
@@ -236,7 +272,8 @@ pub not_code : (o : Option ℕ) → is_some o ≡ false → o ≡ None
 not_code None e = refl
 not_code (Some n) e = absurd (cc)
 
-inside_of : (l x : Bool) (v f m sa ss so go : ℕ) → (l && (x && ((nat_le v sa && nat_le (sa + ss) (v + f)) && nat_eq (so + v) (go + sa)))) ≡ true
+inside_of : (l x : Bool) (v f m sa ss so go : ℕ)
+    → (l && (x && ((nat_le v sa && nat_le (sa + ss) (v + f)) && nat_eq (so + v) (go + sa)))) ≡ true
     → (l ≡ true → (f ≤ m) × (v + m ≤ 0x7ff00000)) → sa + ss ≤ 0x7ff00000
 inside_of true true v f m sa ss so go h i =
     let (j, k) = i refl in
@@ -251,6 +288,8 @@ exec_low file segments code h = λ k d l e.
     let s : Section = get_or (sections_of file) k d in
     let (p, q) = all_placed file h.inside k d l e in
     let (g, t) = found_some (is_place_of s) (segments_of file) p in
-    let i : IsLoadedInside (length file) g = found_in (is_place_of s) (IsLoadedInside (length file)) (segments_of file) g t h.facts.segments in
-    inside_of (is_loaded g) (is_set 1 g.flags) g.vaddr g.file_size g.mem_size s.addr s.size s.offset g.offset (found_passes (is_place_of s) (segments_of file) g t)
+    let i : IsLoadedInside (length file) g =
+    found_in (is_place_of s) (IsLoadedInside (length file)) (segments_of file) g t h.facts.segments in
+    inside_of (is_loaded g) (is_set 1 g.flags) g.vaddr g.file_size g.mem_size s.addr s.size s.offset g.offset
+    (found_passes (is_place_of s) (segments_of file) g t)
     (λ u. ((i u).fits, (i u).memory))

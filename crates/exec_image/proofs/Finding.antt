@@ -27,7 +27,8 @@ pub found_some : {X : Type 0} (p : X → Bool) (xs : List X) → list_any p xs �
 found_some p [] h = absurd (cc)
 found_some {X = X} p (y ∷ ys) h = decide (p y) refl (found_some p ys)
   where
-    decide : (b : Bool) → p y ≡ b → (list_any p ys ≡ true → (x : X) × (find p ys ≡ Some x)) → (x : X) × (find p (y ∷ ys) ≡ Some x)
+    decide : (b : Bool) → p y ≡ b → (list_any p ys ≡ true → (x : X) × (find p ys ≡ Some x))
+        → (x : X) × (find p (y ∷ ys) ≡ Some x)
     decide true e ih = (y, rw e refl)
     decide false e ih = let (x, f) = ih (rw e at h) in (x, rw e f)
 
@@ -62,7 +63,8 @@ none_at : {X : Type 0} (p : X → Bool) (xs : List X) → length xs ≤ position
 none_at p [] h = All-nil (λ x. p x ≡ false)
 none_at p (x ∷ xs) h = decide (p x) refl (none_at p xs)
   where
-    decide : (b : Bool) → p x ≡ b → (length xs ≤ position_or_len p xs → All (λ y. p y ≡ false) xs) → All (λ y. p y ≡ false) (x ∷ xs)
+    decide : (b : Bool) → p x ≡ b → (length xs ≤ position_or_len p xs → All (λ y. p y ≡ false) xs)
+        → All (λ y. p y ≡ false) (x ∷ xs)
     decide true e ih = absurd (let q : suc (length xs) ≤ 0 = rw e at h in omega arith)
     decide false e ih =
         let q : suc (length xs) ≤ 1 + position_or_len p xs = rw e at h in
@@ -120,7 +122,8 @@ found_alike p q R P apart weaker (y ∷ ys) a r x h =
     decide false true e f ih =
         let g : find q ys ≡ Some x = rw e at h in
         absurd (
-        apart y x (All-head P y ys a) (found_in q P ys x g (All-tail P y ys a)) (found_in q (R y) ys x g (pairs_head R y ys r)) f
+        apart y x (All-head P y ys a) (found_in q P ys x g (All-tail P y ys a))
+        (found_in q (R y) ys x g (pairs_head R y ys r)) f
         (weaker x (found_passes q ys x g))
         )
     decide false false e f ih = rw f (ih (rw e at h))

@@ -18,37 +18,51 @@ rises : (e : ℕ) (xs : List Segment) → e ≤ fold (λ end s. max end (s.vaddr
 rises e [] = omega arith
 rises e (x ∷ xs) = let h = rises (max e (x.vaddr + x.mem_size)) xs in omega (arith, h)
 
-all_below : (e : ℕ) (xs : List Segment) → All (λ s. is_loaded s ≡ true → s.vaddr + s.mem_size ≤ fold (λ end s. max end (s.vaddr + s.mem_size)) e (filter is_loaded xs)) xs
+all_below : (e : ℕ) (xs : List Segment)
+    → All (λ s. is_loaded s ≡ true → s.vaddr + s.mem_size
+    ≤ fold (λ end s. max end (s.vaddr + s.mem_size)) e (filter is_loaded xs)) xs
 all_below e [] = All-nil (λ s. is_loaded s ≡ true → s.vaddr + s.mem_size ≤ e)
 all_below e (x ∷ xs) = decide (is_loaded x) refl (all_below e xs) (all_below (max e (x.vaddr + x.mem_size)) xs)
   where
     decide : (b : Bool) → is_loaded x ≡ b
-        → All (λ s. is_loaded s ≡ true → s.vaddr + s.mem_size ≤ fold (λ end s. max end (s.vaddr + s.mem_size)) e (filter is_loaded xs)) xs
-        → All (λ s. is_loaded s ≡ true → s.vaddr + s.mem_size ≤ fold (λ end s. max end (s.vaddr + s.mem_size)) (max e (x.vaddr + x.mem_size)) (filter is_loaded xs)) xs
-        → All (λ s. is_loaded s ≡ true → s.vaddr + s.mem_size ≤ fold (λ end s. max end (s.vaddr + s.mem_size)) e (filter is_loaded (x ∷ xs))) (x ∷ xs)
+        → All (λ s. is_loaded s ≡ true → s.vaddr + s.mem_size
+        ≤ fold (λ end s. max end (s.vaddr + s.mem_size)) e (filter is_loaded xs)) xs
+        → All (λ s. is_loaded s ≡ true → s.vaddr + s.mem_size
+        ≤ fold (λ end s. max end (s.vaddr + s.mem_size)) (max e (x.vaddr + x.mem_size)) (filter is_loaded xs)) xs
+        → All (λ s. is_loaded s ≡ true → s.vaddr + s.mem_size
+        ≤ fold (λ end s. max end (s.vaddr + s.mem_size)) e (filter is_loaded (x ∷ xs))) (x ∷ xs)
     decide true h i j =
-        rw h (All-cons (λ s. is_loaded s ≡ true → s.vaddr + s.mem_size ≤ fold (λ end s. max end (s.vaddr + s.mem_size)) (max e (x.vaddr + x.mem_size)) (filter is_loaded xs)) x xs
+        rw h (All-cons (λ s. is_loaded s ≡ true
+        → s.vaddr + s.mem_size ≤ fold (λ end s. max end (s.vaddr + s.mem_size)) (max e (x.vaddr + x.mem_size))
+        (filter is_loaded xs)) x xs
         (λ l. let r = rises (max e (x.vaddr + x.mem_size)) (filter is_loaded xs) in omega (arith, r)) j)
     decide false h i j =
-        rw h (All-cons (λ s. is_loaded s ≡ true → s.vaddr + s.mem_size ≤ fold (λ end s. max end (s.vaddr + s.mem_size)) e (filter is_loaded xs)) x xs
+        rw h (All-cons (λ s. is_loaded s ≡ true
+        → s.vaddr + s.mem_size ≤ fold (λ end s. max end (s.vaddr + s.mem_size)) e (filter is_loaded xs)) x xs
         (λ l. let g : true ≡ false = sym l ∙ h in absurd (cc)) i)
 
-pub ends_below : (segments : List Segment) → All (λ s. is_loaded s ≡ true → s.vaddr + s.mem_size ≤ image_end segments) segments
+pub ends_below : (segments : List Segment)
+    → All (λ s. is_loaded s ≡ true → s.vaddr + s.mem_size ≤ image_end segments) segments
 ends_below segments = all_below 0 segments
 
-holds : (l : Bool) (v f m a e : ℕ) → (l && (nat_le v a && nat_lt a (v + f))) ≡ true → (l ≡ true → v + m ≤ e) → (l ≡ true → f ≤ m) → a < e
+holds : (l : Bool) (v f m a e : ℕ) → (l && (nat_le v a && nat_lt a (v + f))) ≡ true → (l ≡ true → v + m ≤ e)
+    → (l ≡ true → f ≤ m) → a < e
 holds true v f m a e h i j =
-    let p : v + m ≤ e = i refl in let q : f ≤ m = j refl in let r : a < v + f = grind (arith, nat_tests) in omega (arith, p, q, r)
+    let p : v + m ≤ e = i refl in let q : f ≤ m = j refl in let r : a < v + f =
+    grind (arith, nat_tests) in omega (arith, p, q, r)
 holds false v f m a e h i j = absurd (cc)
 
-pub place_below : (file : List ℕ) (segments : List Segment) (code : List Part) (a : ℕ) → IsCode file segments code → is_some (code_place file a) ≡ true
+pub place_below : (file : List ℕ) (segments : List Segment) (code : List Part) (a : ℕ) → IsCode file segments code
+    → is_some (code_place file a) ≡ true
     → a < image_end (segments_of file)
 place_below file segments code a h e =
     let (at, k) = known file segments code a h e in
     let (g, f) = found (λ g. g.offset + (a - g.vaddr)) at (find (holds_in_file a) segments) k.looked_up in
     let f' : find (holds_in_file a) (segments_of file) ≡ Some g = rw (sym h.table) f in
-    holds (is_loaded g) g.vaddr g.file_size g.mem_size a (image_end (segments_of file)) (found_passes (holds_in_file a) (segments_of file) g f')
-    (found_in (holds_in_file a) (λ s. is_loaded s ≡ true → s.vaddr + s.mem_size ≤ image_end (segments_of file)) (segments_of file) g f' (ends_below (segments_of file)))
+    holds (is_loaded g) g.vaddr g.file_size g.mem_size a (image_end (segments_of file))
+    (found_passes (holds_in_file a) (segments_of file) g f')
+    (found_in (holds_in_file a) (λ s. is_loaded s ≡ true → s.vaddr + s.mem_size ≤ image_end (segments_of file))
+    (segments_of file) g f' (ends_below (segments_of file)))
     (λ l. (found_in (holds_in_file a) (IsLoadedInside (length file)) (segments_of file) g f' h.facts.segments l).fits)
   where
     found : (f : Segment → ℕ) (n : ℕ) (o : Option Segment) → option_map f o ≡ Some n → (g : Segment) × (o ≡ Some g)
@@ -63,6 +77,7 @@ use_some file a h = decide (code_place file a) refl
     decide (Some p) e = rw e refl
     decide None e = absurd (let q : false ≡ true = rw e at h in cc)
 
-pub use_below : (file : List ℕ) (segments : List Segment) (code : List Part) (a : ℕ) → IsCode file segments code → uses_tp_at file a ≡ true
+pub use_below : (file : List ℕ) (segments : List Segment) (code : List Part) (a : ℕ) → IsCode file segments code
+    → uses_tp_at file a ≡ true
     → a < image_end (segments_of file)
 use_below file segments code a h e = place_below file segments code a h (use_some file a e)

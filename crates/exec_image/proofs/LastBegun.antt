@@ -22,21 +22,26 @@ early from to p h = tests (nat_lt p.start to) p.end h
     tests true e h = grind (arith, nat_tests)
     tests false e h = refl
 
-pub none_begun : (from to : ℕ) (ps : List Part) (n : ℕ) → Begun to ps n → n ≤ 0 → nat_lt 0 n ≡ list_any (is_meeting from to) ps
+pub none_begun : (from to : ℕ) (ps : List Part) (n : ℕ) → Begun to ps n → n ≤ 0
+    → nat_lt 0 n ≡ list_any (is_meeting from to) ps
 none_begun from to ps n point h =
     let e : nat_lt 0 n ≡ false = grind (arith, nat_tests) in
-    e ∙ sym (list_any_none (is_meeting from to) ps (λ k d l. late from to (get_or ps k d) (point.1 k d (omega (arith, h)) l)))
+    e ∙ sym (list_any_none (is_meeting from to) ps
+    (λ k d l. late from to (get_or ps k d) (point.1 k d (omega (arith, h)) l)))
 
-pub last_begun : (from to : ℕ) (ps : List Part) (n : ℕ) (d : Part) → Begun to ps n → IsNonDecreasingBy (λ p. p.end) ps → n ≤ length ps → 0 < n
+pub last_begun : (from to : ℕ) (ps : List Part) (n : ℕ) (d : Part) → Begun to ps n → IsNonDecreasingBy (λ p. p.end) ps
+    → n ≤ length ps → 0 < n
     → nat_lt from (get_or ps (n - 1) d).end ≡ list_any (is_meeting from to) ps
 last_begun from to ps n d point ends bound h = decide (nat_lt from (get_or ps (n - 1) d).end) refl
   where
     below : n - 1 < length ps
     below = omega (arith, h, bound)
 
-    decide : (b : Bool) → nat_lt from (get_or ps (n - 1) d).end ≡ b → nat_lt from (get_or ps (n - 1) d).end ≡ list_any (is_meeting from to) ps
+    decide : (b : Bool) → nat_lt from (get_or ps (n - 1) d).end ≡ b
+        → nat_lt from (get_or ps (n - 1) d).end ≡ list_any (is_meeting from to) ps
     decide true e =
-        let m : is_meeting from to (get_or ps (n - 1) d) ≡ true = rw (point.0 (n - 1) d (omega arith) (omega (arith, h)), e) refl in
+        let m : is_meeting from to (get_or ps (n - 1) d) ≡ true =
+        rw (point.0 (n - 1) d (omega arith) (omega (arith, h)), e) refl in
         e ∙ sym (list_any_at (is_meeting from to) ps (n - 1) d below m)
     decide false e =
         let last : (get_or ps (n - 1) d).end ≤ from = grind (arith, nat_tests) in

@@ -13,6 +13,7 @@ mod HeapSymbols
 pub mod ImageEnd
 mod Stubs
 pub mod HeapWords
+pub mod HeapApart
 mod SiteShape
 mod SiteSteps
 mod Passed

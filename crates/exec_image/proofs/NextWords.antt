@@ -31,7 +31,8 @@ aligned file a h = decide (a % 4 == 0) refl
     decide true e = grind (arith, nat_tests)
     decide false e = absurd (let q : false ≡ true = rw (code_odd file a e) at h in cc)
 
-out_place : (file : List ℕ) (segments : List Segment) (code : List Part) (a : ℕ) → IsCode file segments code → list_any (is_meeting a (a + 1)) code ≡ false
+out_place : (file : List ℕ) (segments : List Segment) (code : List Part) (a : ℕ) → IsCode file segments code
+    → list_any (is_meeting a (a + 1)) code ≡ false
     → code_place file a ≡ None
 out_place file segments code a h e = decide (a % 4 == 0) refl
   where
@@ -65,7 +66,8 @@ inside a p l m = tests p.start p.end l m
 
 -- between the parts behind and the next part there is no code
 gap : (file : List ℕ) (segments : List Segment) (code : List Part) (i at a : ℕ) → IsCode file segments code
-    → ((k : ℕ) (d : Part) → k < i → (get_or code k d).end ≤ at) → at ≤ a → ((d : Part) → i < length code → a < (get_or code i d).start)
+    → ((k : ℕ) (d : Part) → k < i → (get_or code k d).end ≤ at) → at ≤ a
+    → ((d : Part) → i < length code → a < (get_or code i d).start)
     → code_place file a ≡ None
 gap file segments code i at a h done l next =
     out_place file segments code a h (list_any_none (is_meeting a (a + 1)) code (λ k d m. elim (cases_lt k i) [
@@ -78,8 +80,10 @@ gap file segments code i at a h done l next =
     ]))
 
 -- from one address on, up to the next word of four bytes, or to the next part with code, there is none
-pub gap_before : (file : List ℕ) (segments : List Segment) (code : List Part) (i from at b : ℕ) (d : Part) → IsCode file segments code
-    → ((k : ℕ) (d : Part) → k < i → (get_or code k d).end ≤ at) → at % 4 ≡ 0 → at < from + 4 → from ≤ b → i < length code
+pub gap_before : (file : List ℕ) (segments : List Segment) (code : List Part) (i from at b : ℕ) (d : Part)
+    → IsCode file segments code
+    → ((k : ℕ) (d : Part) → k < i → (get_or code k d).end ≤ at) → at % 4 ≡ 0 → at < from + 4 → from ≤ b
+    → i < length code
     → b < max at (get_or code i d).start → code_place file b ≡ None
 gap_before file segments code i from at b d h done m near l n u = elim (cases_lt b at) [
   | inl k ↦ odd_place file b (λ z. omega (arith, k, m, near, l, z))
@@ -90,8 +94,10 @@ gap_before file segments code i from at b d h done m near l n u = elim (cases_lt
 ]
 
 -- behind all parts there is none
-pub gap_behind : (file : List ℕ) (segments : List Segment) (code : List Part) (i from at b : ℕ) → IsCode file segments code
-    → ((k : ℕ) (d : Part) → k < i → (get_or code k d).end ≤ at) → at % 4 ≡ 0 → at < from + 4 → from ≤ b → length code ≤ i
+pub gap_behind : (file : List ℕ) (segments : List Segment) (code : List Part) (i from at b : ℕ)
+    → IsCode file segments code
+    → ((k : ℕ) (d : Part) → k < i → (get_or code k d).end ≤ at) → at % 4 ≡ 0 → at < from + 4 → from ≤ b
+    → length code ≤ i
     → code_place file b ≡ None
 gap_behind file segments code i from at b h done m near l n = elim (cases_lt b at) [
   | inl k ↦ odd_place file b (λ z. omega (arith, k, m, near, l, z))
@@ -106,7 +112,8 @@ sized false z f g h = absurd (cc)
 abbrev IsWhole : Part → Type 0
 IsWhole p = (p.start % 4 ≡ 0) × (p.start < p.end)
 
-whole_section : (s : Section) → IsWords s → is_executable s ≡ true → IsWhole (record { start = s.addr; end = s.addr + s.size })
+whole_section : (s : Section) → IsWords s → is_executable s ≡ true
+    → IsWhole (record { start = s.addr; end = s.addr + s.size })
 whole_section s w e =
     let (m, n) = w e in
     let z : (s.size == 0) ≡ false = sized (s.kind == 1) (s.size == 0) (is_set 2 s.flags) (is_set 4 s.flags) e in
@@ -121,7 +128,8 @@ whole_parts (s ∷ ss) h = decide (is_executable s) refl (whole_parts ss (All-ta
   where
     decide : (b : Bool) → is_executable s ≡ b → All IsWhole (code_parts ss) → All IsWhole (code_parts (s ∷ ss))
     decide true e ih =
-        rw e (All-cons IsWhole (record { start = s.addr; end = s.addr + s.size }) (code_parts ss) (whole_section s (All-head IsWords s ss h) e) ih)
+        rw e (All-cons IsWhole (record { start = s.addr; end = s.addr + s.size }) (code_parts ss)
+        (whole_section s (All-head IsWords s ss h) e) ih)
     decide false e ih = rw e ih
 
 within : (p q : Part) → is_within p q ≡ true → (q.start ≤ p.start) × (p.end ≤ q.end)
@@ -131,7 +139,8 @@ within p q h = bounds q.start p.start p.end q.end h
     bounds a b c d h = (grind (arith, nat_tests), grind (arith, nat_tests))
 
 -- the first part that ends above an address begins at a code word, where it begins above the address
-starts_code : (file : List ℕ) (segments : List Segment) (code : List Part) (i at : ℕ) (d : Part) → IsCode file segments code → i < length code
+starts_code : (file : List ℕ) (segments : List Segment) (code : List Part) (i at : ℕ) (d : Part)
+    → IsCode file segments code → i < length code
     → ((k : ℕ) (d : Part) → k < i → (get_or code k d).end ≤ at) → at < (get_or code i d).end
     → is_some (code_place file (get_or code i d).start) ≡ true
 starts_code file segments code i at d h l done up =
@@ -152,11 +161,13 @@ starts_code file segments code i at d h l done up =
           let some : p.start < r.end = omega (arith, e, y, whole.1) in
           let whole_start : p.start % 4 ≡ 0 = rw (sym e) whole.0 in
           in_place file segments code p.start h whole_start
-          (list_any_at (is_meeting p.start (p.start + 1)) code k r m (rw f (inside p.start r (omega (arith, e, x)) some)))
+          (list_any_at (is_meeting p.start (p.start + 1)) code k r m
+          (rw f (inside p.start r (omega (arith, e, x)) some)))
     ]
 
 -- so what is looked up is a code word
-pub next_is_code : (file : List ℕ) (segments : List Segment) (code : List Part) (i at : ℕ) (d : Part) → IsCode file segments code → i < length code
+pub next_is_code : (file : List ℕ) (segments : List Segment) (code : List Part) (i at : ℕ) (d : Part)
+    → IsCode file segments code → i < length code
     → at % 4 ≡ 0 → ((k : ℕ) (d : Part) → k < i → (get_or code k d).end ≤ at) → at < (get_or code i d).end
     → is_some (code_place file (max at (get_or code i d).start)) ≡ true
 next_is_code file segments code i at d h l m done up = elim (cases_lt at (get_or code i d).start) [
@@ -165,11 +176,13 @@ next_is_code file segments code i at d h l m done up = elim (cases_lt at (get_or
       rw e (starts_code file segments code i at d h l done up)
   | inr k ↦
       let e : max at (get_or code i d).start ≡ at = omega (arith, k) in
-      rw e (in_place file segments code at h m (list_any_at (is_meeting at (at + 1)) code i d l (inside at (get_or code i d) k up)))
+      rw e (in_place file segments code at h m
+      (list_any_at (is_meeting at (at + 1)) code i d l (inside at (get_or code i d) k up)))
 ]
 
 -- a code word ends in the image, and in memory
-pub word_end : (file : List ℕ) (segments : List Segment) (code : List Part) (a : ℕ) → IsCode file segments code → is_some (code_place file a) ≡ true
+pub word_end : (file : List ℕ) (segments : List Segment) (code : List Part) (a : ℕ) → IsCode file segments code
+    → is_some (code_place file a) ≡ true
     → (a + 4 ≤ image_end (segments_of file)) × (a + 4 ≤ 0x7ff00000)
 word_end file segments code a h e =
     let (at, k) = known file segments code a h e in
@@ -195,8 +208,10 @@ same_some f (Some x) = refl
 pub no_word : (file : List ℕ) (a : ℕ) → code_place file a ≡ None → code_word file a ≡ None
 no_word file a h = rw h refl
 
-pub next_word : (file : List ℕ) (segments : List Segment) (code : List Part) (i from at a : ℕ) (d : Part) → IsCode file segments code → i < length code
-    → at % 4 ≡ 0 → from ≤ at → at < from + 4 → ((k : ℕ) (d : Part) → k < i → (get_or code k d).end ≤ at) → at < (get_or code i d).end
+pub next_word : (file : List ℕ) (segments : List Segment) (code : List Part) (i from at a : ℕ) (d : Part)
+    → IsCode file segments code → i < length code
+    → at % 4 ≡ 0 → from ≤ at → at < from + 4 → ((k : ℕ) (d : Part) → k < i → (get_or code k d).end ≤ at)
+    → at < (get_or code i d).end
     → a ≡ max at (get_or code i d).start → IsNextWord file from a
 next_word file segments code i from at a d h l m least near done up e =
     let w : is_some (code_place file a) ≡ true = rw e (next_is_code file segments code i at d h l m done up) in

@@ -42,7 +42,8 @@ pub record Passed (file : List ℕ) : Type 0 where
 
 pub passed : (file : List ℕ) → IsAccepted file → Passed file
 passed file h =
-    let (a, h1) = none_both (option_map Elf (refusal file)) (option_map Relocs (reloc_refusal file) or_else image_refusal file) h in
+    let (a, h1) = none_both (option_map Elf (refusal file))
+    (option_map Relocs (reloc_refusal file) or_else image_refusal file) h in
     let (b, h2) = none_both (option_map Relocs (reloc_refusal file)) (image_refusal file) h1 in
     let (c, h3) = none_both (exec_not_words (sections_of file)) (exec_outside file or_else rest_refusal file) h2 in
     let (d, h4) = none_both (exec_outside file) (rest_refusal file) h3 in
@@ -75,10 +76,14 @@ end_within : (limit e : ℕ) (xs : List Segment) → e ≤ limit → list_any (e
 end_within limit e [] h n = h
 end_within limit e (x ∷ xs) h n =
     let (p, q) = both_false (ends_above limit x) (list_any (ends_above limit) xs) n in
-    decide (is_loaded x) refl p (end_within limit e xs h q) (λ l. end_within limit (max e (x.vaddr + x.mem_size)) xs l q)
+    decide (is_loaded x) refl p (end_within limit e xs h q)
+    (λ l. end_within limit (max e (x.vaddr + x.mem_size)) xs l q)
   where
-    decide : (b : Bool) → is_loaded x ≡ b → ends_above limit x ≡ false → fold (λ end s. max end (s.vaddr + s.mem_size)) e (filter is_loaded xs) ≤ limit
-        → (max e (x.vaddr + x.mem_size) ≤ limit → fold (λ end s. max end (s.vaddr + s.mem_size)) (max e (x.vaddr + x.mem_size)) (filter is_loaded xs) ≤ limit)
+    decide : (b : Bool) → is_loaded x ≡ b → ends_above limit x ≡ false
+        → fold (λ end s. max end (s.vaddr + s.mem_size)) e (filter is_loaded xs) ≤ limit
+        → (max e (x.vaddr + x.mem_size) ≤ limit
+        → fold (λ end s. max end (s.vaddr + s.mem_size)) (max e (x.vaddr + x.mem_size)) (filter is_loaded xs)
+        ≤ limit)
         → fold (λ end s. max end (s.vaddr + s.mem_size)) e (filter is_loaded (x ∷ xs)) ≤ limit
     decide true f p i j =
         let g : nat_lt limit (x.vaddr + x.mem_size) ≡ false = rw f at p in
@@ -91,4 +96,5 @@ unfolding image_too_large
 accepted_end file h =
     let (a, h1) = none_both (when (nat_lt 64 (e_phnum file)) (ImageTooLarge Headers)) _ (passed file h).room in
     let (b, c) = none_both (when (nat_lt 67108864 (memory_size (segments_of file))) (ImageTooLarge Bytes)) _ h1 in
-    end_within 0x70000000 0 (segments_of file) (omega arith) (not_when (list_any (ends_above 0x70000000) (segments_of file)) (ImageTooLarge End) c)
+    end_within 0x70000000 0 (segments_of file) (omega arith)
+    (not_when (list_any (ends_above 0x70000000) (segments_of file)) (ImageTooLarge End) c)

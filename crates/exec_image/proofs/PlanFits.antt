@@ -37,16 +37,20 @@ none_of_any p (x ∷ xs) h =
     All-cons (λ x. p x ≡ false) x xs a (none_of_any p xs b)
 
 -- the lines from first to last, each tried for itself and against those before
-abbrev scan : (PlanLine → Bool) → (PlanLine → ℕ) → (PlanLine → PlanFault) → List PlanLine → List PlanLine → Option PlanFault
+abbrev scan : (PlanLine → Bool) → (PlanLine → ℕ) → (PlanLine → PlanFault) → List PlanLine → List PlanLine
+    → Option PlanFault
 scan bad key why before [] = None
 scan bad key why before (l ∷ ls) =
     when (bad l || list_any (λ m. key m == key l) before) (why l) or_else scan bad key why (before ++ l ∷ []) ls
 
-site_scan : (file : List ℕ) (before ls : List PlanLine) → no_site_from file before ls ≡ scan (λ l. not (is_some (site_at file l.addr))) (λ l. l.addr) (λ l. PlanSite l.addr) before ls
+site_scan : (file : List ℕ) (before ls : List PlanLine)
+    → no_site_from file before ls ≡ scan (λ l. not (is_some (site_at file l.addr))) (λ l. l.addr) (λ l. PlanSite l.addr)
+    before ls
 site_scan file before [] = refl
 site_scan file before (l ∷ ls) = rw (site_scan file (before ++ l ∷ []) ls) refl
 
-bit_scan : (before ls : List PlanLine) → no_bit_from before ls ≡ scan (λ l. nat_le 32 l.bit) (λ l. l.bit) (λ l. PlanBit l.bit) before ls
+bit_scan : (before ls : List PlanLine)
+    → no_bit_from before ls ≡ scan (λ l. nat_le 32 l.bit) (λ l. l.bit) (λ l. PlanBit l.bit) before ls
 bit_scan before [] = refl
 bit_scan before (l ∷ ls) = rw (bit_scan (before ++ l ∷ []) ls) refl
 
@@ -58,16 +62,20 @@ record IsScanned (bad : PlanLine → Bool) (key : PlanLine → ℕ) (before ls :
 differ : (x y : ℕ) → (x == y) ≡ false → x ≢ y
 differ x y h = λ e. grind (arith, nat_tests)
 
-last_of : (key : PlanLine → ℕ) (n : ℕ) (xs : List PlanLine) (x : PlanLine) → All (λ m. key m ≢ n) (xs ++ x ∷ []) → key x ≢ n
+last_of : (key : PlanLine → ℕ) (n : ℕ) (xs : List PlanLine) (x : PlanLine) → All (λ m. key m ≢ n) (xs ++ x ∷ [])
+    → key x ≢ n
 last_of key n [] x h = All-head (λ m. key m ≢ n) x [] h
 last_of key n (y ∷ ys) x h = last_of key n ys x (All-tail (λ m. key m ≢ n) y (ys ++ x ∷ []) h)
 
-front_of : (key : PlanLine → ℕ) (n : ℕ) (xs : List PlanLine) (x : PlanLine) → All (λ m. key m ≢ n) (xs ++ x ∷ []) → All (λ m. key m ≢ n) xs
+front_of : (key : PlanLine → ℕ) (n : ℕ) (xs : List PlanLine) (x : PlanLine) → All (λ m. key m ≢ n) (xs ++ x ∷ [])
+    → All (λ m. key m ≢ n) xs
 front_of key n [] x h = All-nil (λ m. key m ≢ n)
 front_of key n (y ∷ ys) x h =
-    All-cons (λ m. key m ≢ n) y ys (All-head (λ m. key m ≢ n) y (ys ++ x ∷ []) h) (front_of key n ys x (All-tail (λ m. key m ≢ n) y (ys ++ x ∷ []) h))
+    All-cons (λ m. key m ≢ n) y ys (All-head (λ m. key m ≢ n) y (ys ++ x ∷ []) h)
+    (front_of key n ys x (All-tail (λ m. key m ≢ n) y (ys ++ x ∷ []) h))
 
-scanned : (bad : PlanLine → Bool) (key : PlanLine → ℕ) (why : PlanLine → PlanFault) (before ls : List PlanLine) → scan bad key why before ls ≡ None → IsScanned bad key before ls
+scanned : (bad : PlanLine → Bool) (key : PlanLine → ℕ) (why : PlanLine → PlanFault) (before ls : List PlanLine)
+    → scan bad key why before ls ≡ None → IsScanned bad key before ls
 scanned bad key why before [] h =
     record {
       good = All-nil (λ l. bad l ≡ false);
@@ -75,36 +83,46 @@ scanned bad key why before [] h =
       fresh = All-nil (λ l. All (λ m. key m ≢ key l) before);
     }
 scanned bad key why before (l ∷ ls) h =
-    let (a, b) = none_both (when (bad l || list_any (λ m. key m == key l) before) (why l)) (scan bad key why (before ++ l ∷ []) ls) h in
-    let (c, d) = both_false (bad l) (list_any (λ m. key m == key l) before) (not_when (bad l || list_any (λ m. key m == key l) before) (why l) a) in
+    let (a, b) = none_both (when (bad l || list_any (λ m. key m == key l) before) (why l))
+    (scan bad key why (before ++ l ∷ []) ls) h in
+    let (c, d) = both_false (bad l) (list_any (λ m. key m == key l) before)
+    (not_when (bad l || list_any (λ m. key m == key l) before) (why l) a) in
     let s : IsScanned bad key (before ++ l ∷ []) ls = scanned bad key why (before ++ l ∷ []) ls b in
-    let f : All (λ m. key m ≢ key l) before = λ k e i. differ (key (get_or before k e)) (key l) (none_of_any (λ m. key m == key l) before d k e i) in
+    let f : All (λ m. key m ≢ key l) before =
+    λ k e i. differ (key (get_or before k e)) (key l) (none_of_any (λ m. key m == key l) before d k e i) in
     record {
       good = All-cons (λ l. bad l ≡ false) l ls c s.good;
-      apart = AllPairs-cons (λ l m. key l ≢ key m) l ls (λ k e i. last_of key (key (get_or ls k e)) before l (s.fresh k e i)) s.apart;
-      fresh = All-cons (λ l. All (λ m. key m ≢ key l) before) l ls f (λ k e i. front_of key (key (get_or ls k e)) before l (s.fresh k e i));
+      apart = AllPairs-cons (λ l m. key l ≢ key m) l ls
+          (λ k e i. last_of key (key (get_or ls k e)) before l (s.fresh k e i)) s.apart;
+      fresh = All-cons (λ l. All (λ m. key m ≢ key l) before) l ls f
+          (λ k e i. front_of key (key (get_or ls k e)) before l (s.fresh k e i));
     }
 
 same : (x y : ℕ) → x ≢ y → (x == y) ≡ false
 same x y h = grind (arith, nat_tests)
 
-unscanned : (bad : PlanLine → Bool) (key : PlanLine → ℕ) (why : PlanLine → PlanFault) (before ls : List PlanLine) → IsScanned bad key before ls → scan bad key why before ls ≡ None
+unscanned : (bad : PlanLine → Bool) (key : PlanLine → ℕ) (why : PlanLine → PlanFault) (before ls : List PlanLine)
+    → IsScanned bad key before ls → scan bad key why before ls ≡ None
 unscanned bad key why before [] h = refl
 unscanned bad key why before (l ∷ ls) h =
     let g : bad l ≡ false = All-head (λ l. bad l ≡ false) l ls h.good in
     let f : All (λ m. key m ≢ key l) before = All-head (λ l. All (λ m. key m ≢ key l) before) l ls h.fresh in
-    let e : list_any (λ m. key m == key l) before ≡ false = list_any_none (λ m. key m == key l) before (λ k d i. same (key (get_or before k d)) (key l) (f k d i)) in
+    let e : list_any (λ m. key m == key l) before ≡ false =
+    list_any_none (λ m. key m == key l) before (λ k d i. same (key (get_or before k d)) (key l) (f k d i)) in
     let r : IsScanned bad key (before ++ l ∷ []) ls =
     record {
       good = All-tail (λ l. bad l ≡ false) l ls h.good;
       apart = pairs_tail (λ l m. key l ≢ key m) l ls h.apart;
       fresh = λ k d i.
-          All-push (λ m. key m ≢ key (get_or ls k d)) before l (All-tail (λ l. All (λ m. key m ≢ key l) before) l ls h.fresh k d i) (pairs_head (λ l m. key l ≢ key m) l ls h.apart k d i);
+          All-push (λ m. key m ≢ key (get_or ls k d)) before l
+          (All-tail (λ l. All (λ m. key m ≢ key l) before) l ls h.fresh k d i)
+          (pairs_head (λ l m. key l ≢ key m) l ls h.apart k d i);
     } in
     rw (g, e) (unscanned bad key why (before ++ l ∷ []) ls r)
 
 -- the rows
-few_from : (i : ℕ) (rs : List Row) → i ≤ 64 → bad_row_from i rs ≡ None → (i + length rs ≤ 64) × All (λ r. r.group < 16) rs
+few_from : (i : ℕ) (rs : List Row) → i ≤ 64 → bad_row_from i rs ≡ None
+    → (i + length rs ≤ 64) × All (λ r. r.group < 16) rs
 few_from i [] l h = (omega arith, All-nil (λ r. r.group < 16))
 few_from i (r ∷ rs) l h =
     let (a, b) = none_both (when (nat_le 16 r.group || (i == 64)) (PlanRow i)) (bad_row_from (i + 1) rs) h in
@@ -114,7 +132,8 @@ few_from i (r ∷ rs) l h =
     let (m, n) = few_from (i + 1) rs (omega (arith, e)) b in
     (omega (arith, m), All-cons (λ r. r.group < 16) r rs g n)
 
-rows_none : (i : ℕ) (rs : List Row) → i + length rs ≤ 64 → i ≤ 64 → All (λ r. r.group < 16) rs → bad_row_from i rs ≡ None
+rows_none : (i : ℕ) (rs : List Row) → i + length rs ≤ 64 → i ≤ 64 → All (λ r. r.group < 16) rs
+    → bad_row_from i rs ≡ None
 rows_none i [] l u h = refl
 rows_none i (r ∷ rs) l u h =
     let g : r.group < 16 = All-head (λ r. r.group < 16) r rs h in
@@ -142,11 +161,13 @@ line_of lines n h =
 has_line : (lines : List PlanLine) (n : ℕ) → Any (λ line. line.bit ≡ n) lines → list_any (λ l. l.bit == n) lines ≡ true
 has_line lines n (k, x, l, g, e) = list_any-from_Any (λ l. l.bit == n) lines (k, x, l, g, grind (arith, nat_tests))
 
-mask_lines : NoneBelow → (lines : List PlanLine) (mask : ℕ) → mask < 2 ^ 32 → strange_mask lines mask ≡ None → HasLines lines mask
+mask_lines : NoneBelow → (lines : List PlanLine) (mask : ℕ) → mask < 2 ^ 32 → strange_mask lines mask ≡ None
+    → HasLines lines mask
 unfolding strange_mask
 mask_lines none_below lines mask m h n set = elim (cases_lt n 32) [
   | inl l ↦
-      let b : first_below (is_strange_bit lines mask) 32 ≡ None = no_map (first_below (is_strange_bit lines mask) 32) h in
+      let b : first_below (is_strange_bit lines mask) 32 ≡ None =
+      no_map (first_below (is_strange_bit lines mask) 32) h in
       let e : is_strange_bit lines mask n ≡ false = (none_below (is_strange_bit lines mask) 32).0 b n l in
       line_of lines n (known_line (bit_and mask (2 ^ n)) (list_any (λ l. l.bit == n) lines) set e)
   | inr l ↦ absurd (high_bit mask n m l set)
@@ -163,29 +184,36 @@ mask_lines none_below lines mask m h n set = elim (cases_lt n 32) [
 mask_none : NoneBelow → (lines : List PlanLine) (mask : ℕ) → HasLines lines mask → strange_mask lines mask ≡ None
 unfolding strange_mask
 mask_none none_below lines mask h =
-    ap (option_map PlanBit) ((none_below (is_strange_bit lines mask) 32).1 (λ n l. decide n (bit_and mask (2 ^ n) == 0) refl))
+    ap (option_map PlanBit) ((none_below (is_strange_bit lines mask) 32).1
+    (λ n l. decide n (bit_and mask (2 ^ n) == 0) refl))
   where
     decide : (n : ℕ) (b : Bool) → (bit_and mask (2 ^ n) == 0) ≡ b → is_strange_bit lines mask n ≡ false
     decide n true e = rw e refl
     decide n false e = rw (e, has_line lines n (h n (differ (bit_and mask (2 ^ n)) 0 e))) refl
 
-masks_lines : NoneBelow → (lines : List PlanLine) (rows : List Row) → All (λ r. r.mask < 2 ^ 32) rows → strange_masks lines rows ≡ None → All (λ row. HasLines lines row.mask) rows
+masks_lines : NoneBelow → (lines : List PlanLine) (rows : List Row) → All (λ r. r.mask < 2 ^ 32) rows
+    → strange_masks lines rows ≡ None → All (λ row. HasLines lines row.mask) rows
 masks_lines none_below lines [] b h = All-nil (λ row. HasLines lines row.mask)
 masks_lines none_below lines (r ∷ rs) b h =
     let (x, y) = none_both (strange_mask lines r.mask) (strange_masks lines rs) h in
-    All-cons (λ row. HasLines lines row.mask) r rs (mask_lines none_below lines r.mask (All-head (λ r. r.mask < 2 ^ 32) r rs b) x)
+    All-cons (λ row. HasLines lines row.mask) r rs
+    (mask_lines none_below lines r.mask (All-head (λ r. r.mask < 2 ^ 32) r rs b) x)
     (masks_lines none_below lines rs (All-tail (λ r. r.mask < 2 ^ 32) r rs b) y)
 
-masks_none : NoneBelow → (lines : List PlanLine) (rows : List Row) → All (λ row. HasLines lines row.mask) rows → strange_masks lines rows ≡ None
+masks_none : NoneBelow → (lines : List PlanLine) (rows : List Row) → All (λ row. HasLines lines row.mask) rows
+    → strange_masks lines rows ≡ None
 masks_none none_below lines [] h = refl
 masks_none none_below lines (r ∷ rs) h =
-    rw (mask_none none_below lines r.mask (All-head (λ row. HasLines lines row.mask) r rs h)) (masks_none none_below lines rs (All-tail (λ row. HasLines lines row.mask) r rs h))
+    rw (mask_none none_below lines r.mask (All-head (λ row. HasLines lines row.mask) r rs h))
+    (masks_none none_below lines rs (All-tail (λ row. HasLines lines row.mask) r rs h))
 
 -- the reach
-reach_of : (file : List ℕ) (l : PlanLine) (k : ℕ) → is_far file k (site_at file l.addr) ≡ false → IsInReach file (Some l) k
+reach_of : (file : List ℕ) (l : PlanLine) (k : ℕ) → is_far file k (site_at file l.addr) ≡ false
+    → IsInReach file (Some l) k
 reach_of file l k h s e p =
     let q : (not s.pair && not (reaches s.addr (stub_at (text_at file) k))) ≡ false = rw e at h in
-    let r : reaches s.addr (stub_at (text_at file) k) ≡ true = known_reach s.pair (reaches s.addr (stub_at (text_at file) k)) p q in
+    let r : reaches s.addr (stub_at (text_at file) k) ≡ true =
+    known_reach s.pair (reaches s.addr (stub_at (text_at file) k)) p q in
     rw (sym (shape file l.addr s e).addr) r
   where
     known_reach : (b c : Bool) → b ≡ false → (not b && not c) ≡ false → c ≡ true
@@ -193,18 +221,22 @@ reach_of file l k h s e p =
     known_reach false false x y = absurd (cc)
     known_reach true c x y = absurd (cc)
 
-reach_from : (file : List ℕ) (k : ℕ) (ls : List PlanLine) → out_of_reach_from file k ls ≡ None → (j : ℕ) → IsInReach file (slice_get ls j) (k + j)
+reach_from : (file : List ℕ) (k : ℕ) (ls : List PlanLine) → out_of_reach_from file k ls ≡ None → (j : ℕ)
+    → IsInReach file (slice_get ls j) (k + j)
 reach_from file k [] h j = tt
 reach_from file k (l ∷ ls) h zero =
-    let (a, b) = none_both (when (is_far file k (site_at file l.addr)) (SiteOutOfReach l.addr)) (out_of_reach_from file (k + 1) ls) h in
+    let (a, b) = none_both (when (is_far file k (site_at file l.addr)) (SiteOutOfReach l.addr))
+    (out_of_reach_from file (k + 1) ls) h in
     let z : k + 0 ≡ k = omega arith in
     rw z (reach_of file l k (not_when (is_far file k (site_at file l.addr)) (SiteOutOfReach l.addr) a))
 reach_from file k (l ∷ ls) h (suc j) =
-    let (a, b) = none_both (when (is_far file k (site_at file l.addr)) (SiteOutOfReach l.addr)) (out_of_reach_from file (k + 1) ls) h in
+    let (a, b) = none_both (when (is_far file k (site_at file l.addr)) (SiteOutOfReach l.addr))
+    (out_of_reach_from file (k + 1) ls) h in
     let z : k + suc j ≡ k + 1 + j = omega arith in
     rw z (reach_from file (k + 1) ls b j)
 
-far_none : (file : List ℕ) (l : PlanLine) (k : ℕ) → IsInReach file (Some l) k → is_far file k (site_at file l.addr) ≡ false
+far_none : (file : List ℕ) (l : PlanLine) (k : ℕ) → IsInReach file (Some l) k
+    → is_far file k (site_at file l.addr) ≡ false
 far_none file l k h = decide (site_at file l.addr) refl
   where
     decide : (o : Option Site) → site_at file l.addr ≡ o → is_far file k (site_at file l.addr) ≡ false
@@ -213,23 +245,28 @@ far_none file l k h = decide (site_at file l.addr) refl
       where
         pairs : (b : Bool) → s.pair ≡ b → (not s.pair && not (reaches s.addr (stub_at (text_at file) k))) ≡ false
         pairs true p = rw p refl
-        pairs false p = let r : reaches l.addr (stub_at (text_at file) k) ≡ true = h s e p in rw (p, (shape file l.addr s e).addr, r) refl
+        pairs false p = let r : reaches l.addr (stub_at (text_at file) k) ≡ true = h s e p in
+            rw (p, (shape file l.addr s e).addr, r) refl
 
-reach_none : (file : List ℕ) (k : ℕ) (ls : List PlanLine) → ((j : ℕ) → IsInReach file (slice_get ls j) (k + j)) → out_of_reach_from file k ls ≡ None
+reach_none : (file : List ℕ) (k : ℕ) (ls : List PlanLine) → ((j : ℕ) → IsInReach file (slice_get ls j) (k + j))
+    → out_of_reach_from file k ls ≡ None
 reach_none file k [] h = refl
 reach_none file k (l ∷ ls) h =
     let z : k + 0 ≡ k = omega arith in
     let a : IsInReach file (Some l) k = rw z at (h 0) in
-    rw (far_none file l k a) (reach_none file (k + 1) ls (λ j. let y : k + suc j ≡ k + 1 + j = omega arith in rw y at (h (suc j))))
+    rw (far_none file l k a) (reach_none file (k + 1) ls
+    (λ j. let y : k + suc j ≡ k + 1 + j = omega arith in rw y at (h (suc j))))
 
-area_parts : (a b : Bool) (x y z w : ℕ) → (nat_lt 20 x || (nat_lt 256 y || nat_lt 1048576 z)) ≡ false → (x ≤ 20) × (y ≤ 256) × (z ≤ 1048576)
+area_parts : (a b : Bool) (x y z w : ℕ) → (nat_lt 20 x || (nat_lt 256 y || nat_lt 1048576 z)) ≡ false
+    → (x ≤ 20) × (y ≤ 256) × (z ≤ 1048576)
 area_parts a b x y z w h = (grind (arith, nat_tests), grind (arith, nat_tests), grind (arith, nat_tests))
 
 some_of : (b : Bool) → not b ≡ false → b ≡ true
 some_of true h = refl
 some_of false h = absurd (cc)
 
-pub fits_of : NoneBelow → (file : List ℕ) (plan : Plan) → All (λ r. r.mask < 2 ^ 32) plan.rows → plan_fault file plan ≡ None → Fits file plan
+pub fits_of : NoneBelow → (file : List ℕ) (plan : Plan) → All (λ r. r.mask < 2 ^ 32) plan.rows
+    → plan_fault file plan ≡ None → Fits file plan
 unfolding no_site no_bit bad_row area_too_large out_of_reach
 fits_of none_below file plan bound h =
     let (a, h1) = none_both (no_site file plan.sites) _ h in
@@ -238,10 +275,15 @@ fits_of none_below file plan bound h =
     let (d, h4) = none_both (bad_row plan.rows) _ h3 in
     let (e, f) = none_both (area_too_large plan.area) (out_of_reach file plan.sites) h4 in
     let s : IsScanned (λ l. not (is_some (site_at file l.addr))) (λ l. l.addr) [] plan.sites =
-    scanned (λ l. not (is_some (site_at file l.addr))) (λ l. l.addr) (λ l. PlanSite l.addr) [] plan.sites (sym (site_scan file [] plan.sites) ∙ a) in
-    let t : IsScanned (λ l. nat_le 32 l.bit) (λ l. l.bit) [] plan.sites = scanned (λ l. nat_le 32 l.bit) (λ l. l.bit) (λ l. PlanBit l.bit) [] plan.sites (sym (bit_scan [] plan.sites) ∙ b) in
+    scanned (λ l. not (is_some (site_at file l.addr))) (λ l. l.addr) (λ l. PlanSite l.addr) [] plan.sites
+    (sym (site_scan file [] plan.sites) ∙ a) in
+    let t : IsScanned (λ l. nat_le 32 l.bit) (λ l. l.bit) [] plan.sites =
+    scanned (λ l. nat_le 32 l.bit) (λ l. l.bit) (λ l. PlanBit l.bit) [] plan.sites
+    (sym (bit_scan [] plan.sites) ∙ b) in
     let (few, groups) = few_from 0 plan.rows (omega arith) d in
-    let (log, chunks, area) = area_parts true true plan.area.log_chunk plan.area.chunks (granules plan.area) 0 (not_when (nat_lt 20 plan.area.log_chunk || (nat_lt 256 plan.area.chunks || nat_lt 1048576 (granules plan.area))) AreaTooLarge e) in
+    let (log, chunks, area) = area_parts true true plan.area.log_chunk plan.area.chunks (granules plan.area) 0
+    (not_when (nat_lt 20 plan.area.log_chunk
+    || (nat_lt 256 plan.area.chunks || nat_lt 1048576 (granules plan.area))) AreaTooLarge e) in
     record {
       sites = λ k d l. some_of (is_some (site_at file (get_or plan.sites k d).addr)) (s.good k d l);
       once = s.apart;
@@ -263,7 +305,8 @@ pub fault_of : NoneBelow → (file : List ℕ) (plan : Plan) → Fits file plan 
 unfolding no_site no_bit bad_row area_too_large out_of_reach
 fault_of none_below file plan h =
     let a : no_site file plan.sites ≡ None =
-    site_scan file [] plan.sites ∙ unscanned (λ l. not (is_some (site_at file l.addr))) (λ l. l.addr) (λ l. PlanSite l.addr) [] plan.sites (record {
+    site_scan file [] plan.sites ∙ unscanned (λ l. not (is_some (site_at file l.addr))) (λ l. l.addr)
+    (λ l. PlanSite l.addr) [] plan.sites (record {
       good = λ k d l. let e : is_some (site_at file (get_or plan.sites k d).addr) ≡ true = h.sites k d l in rw e refl;
       apart = h.once;
       fresh = λ k d l. All-nil (λ m. m.addr ≢ (get_or plan.sites k d).addr);
@@ -276,20 +319,25 @@ fault_of none_below file plan h =
     }) in
     let c : strange_masks plan.sites plan.rows ≡ None = masks_none none_below plan.sites plan.rows h.masks in
     let d : bad_row plan.rows ≡ None = rows_none 0 plan.rows (omega (arith, h.few_rows)) (omega arith) h.groups in
-    let e : area_too_large plan.area ≡ None = ap (λ b. when b AreaTooLarge) (area_none plan.area.log_chunk plan.area.chunks (granules plan.area) h.log_chunk h.chunks h.area) in
-    let f : out_of_reach file plan.sites ≡ None = reach_none file 0 plan.sites (λ j. let z : 0 + j ≡ j = omega arith in rw z (h.reach j)) in
+    let e : area_too_large plan.area ≡ None =
+    ap (λ b. when b AreaTooLarge) (area_none plan.area.log_chunk plan.area.chunks (granules plan.area) h.log_chunk
+    h.chunks h.area) in
+    let f : out_of_reach file plan.sites ≡ None =
+    reach_none file 0 plan.sites (λ j. let z : 0 + j ≡ j = omega arith in rw z (h.reach j)) in
     rw (a, b, c, d, e) f
   where
     high_none : (n : ℕ) → n < 32 → nat_le 32 n ≡ false
     high_none n h = grind (arith, nat_tests)
 
-    area_none : (x y z : ℕ) → x ≤ 20 → y ≤ 256 → z ≤ 1048576 → (nat_lt 20 x || (nat_lt 256 y || nat_lt 1048576 z)) ≡ false
+    area_none : (x y z : ℕ) → x ≤ 20 → y ≤ 256 → z ≤ 1048576
+        → (nat_lt 20 x || (nat_lt 256 y || nat_lt 1048576 z)) ≡ false
     area_none x y z a b c = grind (arith, nat_tests)
 
 mapped : (ls : List PlanLine) → AllPairs (λ l m. l.bit ≢ m.bit) ls → AllPairs (λ x y. x ≢ y) (map (λ l. l.bit) ls)
 mapped [] h = λ i j d l m. absurd (omega arith)
 mapped (l ∷ ls) h =
-    AllPairs-cons (λ x y. x ≢ y) l.bit (map (λ l. l.bit) ls) (All-map (λ y. l.bit ≢ y) (λ l. l.bit) ls (pairs_head (λ l m. l.bit ≢ m.bit) l ls h))
+    AllPairs-cons (λ x y. x ≢ y) l.bit (map (λ l. l.bit) ls)
+    (All-map (λ y. l.bit ≢ y) (λ l. l.bit) ls (pairs_head (λ l m. l.bit ≢ m.bit) l ls h))
     (mapped ls (pairs_tail (λ l m. l.bit ≢ m.bit) l ls h))
 
 below_bound : (xs : List ℕ) (q : ℕ) → All (λ x. nat_le 32 x ≡ false) xs → list_any (eqb q) xs ≡ true → q < 32
@@ -302,21 +350,26 @@ below_bound xs q h i =
 pub few_lines : (lines : List PlanLine) → no_bit lines ≡ None → length lines ≤ 32
 unfolding no_bit
 few_lines lines h =
-    let t : IsScanned (λ l. nat_le 32 l.bit) (λ l. l.bit) [] lines = scanned (λ l. nat_le 32 l.bit) (λ l. l.bit) (λ l. PlanBit l.bit) [] lines (sym (bit_scan [] lines) ∙ h) in
+    let t : IsScanned (λ l. nat_le 32 l.bit) (λ l. l.bit) [] lines =
+    scanned (λ l. nat_le 32 l.bit) (λ l. l.bit) (λ l. PlanBit l.bit) [] lines (sym (bit_scan [] lines) ∙ h) in
     let n : length (map (λ l. l.bit) lines) ≡ length lines = length-map lines (λ l. l.bit) in
     let m : length (map (λ l. l.bit) lines) ≤ 32 =
-    length-le_from_distinct_below (map (λ l. l.bit) lines) 32 (IsDistinct-from_AllPairs Decides-eqb (map (λ l. l.bit) lines) (mapped lines t.apart))
+    length-le_from_distinct_below (map (λ l. l.bit) lines) 32
+    (IsDistinct-from_AllPairs Decides-eqb (map (λ l. l.bit) lines) (mapped lines t.apart))
     (λ q i. below_bound (map (λ l. l.bit) lines) q (All-map (λ x. nat_le 32 x ≡ false) (λ l. l.bit) lines t.good) i) in
     omega (arith, n, m)
 
 -- what is said of a fault says whether the plan fits
-pub says_fits : NoneBelow → (r : Result (Unit {0}) PlanFault) (file : List ℕ) (plan : Plan) → Says r (plan_fault file plan) → OnOk r (All (λ r. r.mask < 2 ^ 32) plan.rows) → OnOk r (Fits file plan)
+pub says_fits : NoneBelow → (r : Result (Unit {0}) PlanFault) (file : List ℕ) (plan : Plan)
+    → Says r (plan_fault file plan) → OnOk r (All (λ r. r.mask < 2 ^ 32) plan.rows) → OnOk r (Fits file plan)
 says_fits none_below (Ok x) file plan h b = fits_of none_below file plan b h
 says_fits none_below (Err why) file plan h b = tt
 
-pub says_misfits : NoneBelow → (r : Result (Unit {0}) PlanFault) (file : List ℕ) (plan : Plan) → Says r (plan_fault file plan) → OnErr r (Fits file plan → ⊥)
+pub says_misfits : NoneBelow → (r : Result (Unit {0}) PlanFault) (file : List ℕ) (plan : Plan)
+    → Says r (plan_fault file plan) → OnErr r (Fits file plan → ⊥)
 says_misfits none_below (Ok x) file plan h = tt
-says_misfits none_below (Err why) file plan h = λ f. let q : None ≡ Some why = sym (fault_of none_below file plan f) ∙ h in absurd (cc)
+says_misfits none_below (Err why) file plan h = λ f. let q : None ≡ Some why = sym (fault_of none_below file plan f)
+    ∙ h in absurd (cc)
 
 -- no bit below 32 passes where none below a number of at least 32 does
 pub all_bits : NoneBelow → (p : ℕ → Bool) (n : ℕ) → first_below p n ≡ None → 32 ≤ n → first_below p 32 ≡ None

@@ -23,7 +23,8 @@ end_from e [] k d l = absurd (omega arith)
 end_from e (p ∷ ps) zero d l = omega arith
 end_from e (p ∷ ps) (suc k) d l = let h = end_from (max e p.end) ps k d (omega arith) in omega (arith, h)
 
-end_of : (e : ℕ) (ps : List Part) (k : ℕ) (d : Part) → k < length ps → (get_or ps k d).end ≤ (get_or (running e ps) k d).end
+end_of : (e : ℕ) (ps : List Part) (k : ℕ) (d : Part) → k < length ps
+    → (get_or ps k d).end ≤ (get_or (running e ps) k d).end
 end_of e [] k d l = absurd (omega arith)
 end_of e (p ∷ ps) zero d l = omega arith
 end_of e (p ∷ ps) (suc k) d l = end_of (max e p.end) ps k d (omega arith)
@@ -38,7 +39,8 @@ end_rises e (p ∷ ps) (suc i) (suc j) d h l = end_rises (max e p.end) ps i j d 
 
 -- an end is at most the first bound, or that of a part before
 end_is : (e : ℕ) (ps : List Part) (k : ℕ) (d : Part) → k < length ps
-    → ((get_or (running e ps) k d).end ≤ e) ⊎ ((j : ℕ) × (j ≤ k) × ((get_or (running e ps) k d).end ≤ (get_or ps j d).end))
+    → ((get_or (running e ps) k d).end ≤ e)
+    ⊎ ((j : ℕ) × (j ≤ k) × ((get_or (running e ps) k d).end ≤ (get_or ps j d).end))
 end_is e [] k d l = absurd (omega arith)
 end_is e (p ∷ ps) zero d l = elim (cases_lt e p.end) [
   | inl a ↦ inr (0, omega arith, omega arith)
@@ -61,20 +63,23 @@ within p q a b = tests q.start p.start p.end q.end a b
 pub running_stands : (ps : List Part) → IsNonDecreasingBy (λ p. p.start) ps → StandsFor ps (running 0 ps)
 running_stands ps up =
     record {
-      starts = λ i j d h l. let m : j < length ps = omega (arith, l, length-running 0 ps) in rw (start_at 0 ps i d, start_at 0 ps j d) (up i j d h m);
+      starts = λ i j d h l. let m : j < length ps = omega (arith, l, length-running 0 ps) in
+          rw (start_at 0 ps i d, start_at 0 ps j d) (up i j d h m);
       ends = λ i j d h l. end_rises 0 ps i j d h (omega (arith, l, length-running 0 ps));
       sound = λ k d l.
           let m : k < length ps = omega (arith, l, length-running 0 ps) in
           elim (end_is 0 ps k d m) [
             | inl a ↦ list_any_at (is_within (get_or (running 0 ps) k d)) ps k d m
-                (within (get_or (running 0 ps) k d) (get_or ps k d) (rw (start_at 0 ps k d) (omega arith)) (omega (arith, a)))
+                (within (get_or (running 0 ps) k d) (get_or ps k d) (rw (start_at 0 ps k d) (omega arith))
+                (omega (arith, a)))
             | inr (j, b, e) ↦
                 list_any_at (is_within (get_or (running 0 ps) k d)) ps j d (omega (arith, b, m))
                 (within (get_or (running 0 ps) k d) (get_or ps j d) (rw (start_at 0 ps k d) (up j k d b m)) e)
           ];
       whole = λ k d l.
           list_any_at (is_within (get_or ps k d)) (running 0 ps) k d (omega (arith, l, length-running 0 ps))
-          (within (get_or ps k d) (get_or (running 0 ps) k d) (rw (start_at 0 ps k d) (omega arith)) (end_of 0 ps k d l));
+          (within (get_or ps k d) (get_or (running 0 ps) k d) (rw (start_at 0 ps k d) (omega arith))
+          (end_of 0 ps k d l));
     }
 
 -- so they stand for the parts in another order
@@ -83,12 +88,14 @@ stands_permuted xs ps sorted moved h =
     record {
       starts = h.starts;
       ends = h.ends;
-      sound = λ k d l. let e : list_any (is_within (get_or sorted k d)) xs ≡ list_any (is_within (get_or sorted k d)) ps = list_any-IsPermutation _ xs ps moved in e ∙ h.sound k d l;
+      sound = λ k d l. let e : list_any (is_within (get_or sorted k d)) xs
+          ≡ list_any (is_within (get_or sorted k d)) ps = list_any-IsPermutation _ xs ps moved in e ∙ h.sound k d l;
       whole = All-permutation (λ p. list_any (is_within p) sorted ≡ true) ps xs (IsPermutation-sym xs ps moved) h.whole;
     }
 
 -- an answer with these parts is one that stands for those
-pub gives : {E : Type 0} (result : Result (Vec Part Global) E) (xs ys : List Part) → StandsFor xs ys → IfOk result (λ list. list.items ≡ ys)
+pub gives : {E : Type 0} (result : Result (Vec Part Global) E) (xs ys : List Part) → StandsFor xs ys
+    → IfOk result (λ list. list.items ≡ ys)
     → IfOk result (λ sorted. StandsFor xs sorted.items)
 gives (Ok list) xs ys h e = rw e h
 gives (Err why) xs ys h e = tt

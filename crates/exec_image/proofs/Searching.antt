@@ -25,5 +25,6 @@ among xs a (Err i) up h =
       | inl j ↦
           let g : get_or xs k d < a = rw (get_or_default xs k d 0 m) (below k j) in grind (arith, nat_tests)
       | inr j ↦
-          let g : a < get_or xs k d = rw (get_or_default xs k d 0 m) (above k (omega (arith, j)) m) in grind (arith, nat_tests)
+          let g : a < get_or xs k d = rw (get_or_default xs k d 0 m) (above k (omega (arith, j)) m) in
+          grind (arith, nat_tests)
     ]))

@@ -16,7 +16,8 @@ IsPair file a s = (low : ℕ) × (code_at file (a + 4) ≡ Some (Jalr 1 1 low)) 
 
 pub record IsShape (file : List ℕ) (a : ℕ) (s : Site) : Type 0 where
   pub addr : s.addr ≡ a
-  pub reloc : (has_reloc (relocs_of file) 17 a || (has_reloc (relocs_of file) 18 a || has_reloc (relocs_of file) 19 a)) ≡ true
+  pub reloc : (has_reloc (relocs_of file) 17 a || (has_reloc (relocs_of file) 18 a || has_reloc (relocs_of file) 19 a))
+      ≡ true
   pub kind : IsJal file a s ⊎ IsPair file a s
 
 kept : (file : List ℕ) (o : Option Site) (s : Site) → kept_site file o ≡ Some s → o ≡ Some s
@@ -34,8 +35,15 @@ jal file a rd imm o n s c e h = decide (rd == 1) (has_reloc (relocs_of file) 17 
   where
     decide : (b r : Bool) → (rd == 1) ≡ b → has_reloc (relocs_of file) 17 a ≡ r → IsShape file a s
     decide true true f g =
-        let q : Some (record { addr = a; target = plus a imm; back = a + 4; pair = false; near = reaches_all_stubs file a }) ≡ Some s = rw (f, g) at h in
-        let t : record { addr = a; target = plus a imm; back = a + 4; pair = false; near = reaches_all_stubs file a } ≡ s = cc in
+        let q : Some (record {
+          addr = a;
+          target = plus a imm;
+          back = a + 4;
+          pair = false;
+          near = reaches_all_stubs file a;
+        }) ≡ Some s = rw (f, g) at h in
+        let t : record { addr = a; target = plus a imm; back = a + 4; pair = false; near = reaches_all_stubs file a }
+        ≡ s = cc in
         let i : rd ≡ 1 = grind (arith, nat_tests) in
         record {
           addr = ap (λ s. s.addr) (sym t);
@@ -49,7 +57,9 @@ pair : (file : List ℕ) (a rd imm rd' rs1 low : ℕ) (s : Site) → code_at fil
     → call_at file a (Some (Auipc rd imm)) (Some (Jalr rd' rs1 low)) ≡ Some s → IsShape file a s
 unfolding call_at
 pair file a rd imm rd' rs1 low s c h =
-    decide ((rd == 1) && ((rd' == 1) && (rs1 == 1))) (has_reloc (relocs_of file) 18 a || has_reloc (relocs_of file) 19 a) (has_reloc (relocs_of file) 17 a) refl refl refl
+    decide ((rd == 1) && ((rd' == 1) && (rs1 == 1)))
+    (has_reloc (relocs_of file) 18 a || has_reloc (relocs_of file) 19 a) (has_reloc (relocs_of file) 17 a) refl refl
+    refl
   where
     made : Site
     made = record { addr = a; target = plus a (imm + low) / 2 * 2; back = a + 8; pair = true; near = true }
@@ -61,7 +71,8 @@ pair file a rd imm rd' rs1 low s c h =
     some_of true c h = refl
     some_of false c h = h
 
-    decide : (b r j : Bool) → ((rd == 1) && ((rd' == 1) && (rs1 == 1))) ≡ b → (has_reloc (relocs_of file) 18 a || has_reloc (relocs_of file) 19 a) ≡ r
+    decide : (b r j : Bool) → ((rd == 1) && ((rd' == 1) && (rs1 == 1))) ≡ b
+        → (has_reloc (relocs_of file) 18 a || has_reloc (relocs_of file) 19 a) ≡ r
         → has_reloc (relocs_of file) 17 a ≡ j → IsShape file a s
     decide true true j f g k =
         let q : Some made ≡ Some s = rw (f, g) at h in
@@ -69,13 +80,15 @@ pair file a rd imm rd' rs1 low s c h =
         let (y, z) = ones rd rd' rs1 f in
         record {
           addr = ap (λ s. s.addr) (sym t);
-          reloc = some_of (has_reloc (relocs_of file) 17 a) (has_reloc (relocs_of file) 18 a || has_reloc (relocs_of file) 19 a) g;
+          reloc = some_of (has_reloc (relocs_of file) 17 a)
+              (has_reloc (relocs_of file) 18 a || has_reloc (relocs_of file) 19 a) g;
           kind = inr (low, c ∙ rw (y, z) refl, ap (λ s. s.back) (sym t), ap (λ s. s.pair) (sym t));
         }
     decide true false j f g k = absurd (let q : None ≡ Some s = rw (f, g) at h in cc)
     decide false r j f g k = absurd (let q : None ≡ Some s = rw f at h in cc)
 
-behind_auipc : (file : List ℕ) (a rd imm : ℕ) (n : Option Instr) (s : Site) → code_at file (a + 4) ≡ n → call_at file a (Some (Auipc rd imm)) n ≡ Some s
+behind_auipc : (file : List ℕ) (a rd imm : ℕ) (n : Option Instr) (s : Site) → code_at file (a + 4) ≡ n
+    → call_at file a (Some (Auipc rd imm)) n ≡ Some s
     → IsShape file a s
 unfolding call_at
 behind_auipc file a rd imm (Some (Jalr rd' rs1 low)) s c h = pair file a rd imm rd' rs1 low s c h
@@ -92,7 +105,8 @@ behind_auipc file a rd imm (Some (Fence x)) s c h = absurd (cc)
 behind_auipc file a rd imm (Some Ecall) s c h = absurd (cc)
 behind_auipc file a rd imm (Some Ebreak) s c h = absurd (cc)
 
-call : (file : List ℕ) (a : ℕ) (o n : Option Instr) (s : Site) → code_at file a ≡ o → code_at file (a + 4) ≡ n → call_at file a o n ≡ Some s → IsShape file a s
+call : (file : List ℕ) (a : ℕ) (o n : Option Instr) (s : Site) → code_at file a ≡ o → code_at file (a + 4) ≡ n
+    → call_at file a o n ≡ Some s → IsShape file a s
 unfolding call_at
 call file a (Some (Jal rd imm)) n s c d h = jal file a rd imm (Some (Jal rd imm)) n s c refl h
 call file a (Some (Auipc rd imm)) n s c d h = behind_auipc file a rd imm n s d h
@@ -110,7 +124,8 @@ call file a (Some Ebreak) n s c d h = absurd (cc)
 
 pub shape : (file : List ℕ) (a : ℕ) (s : Site) → site_at file a ≡ Some s → IsShape file a s
 unfolding site_at
-shape file a s h = call file a (code_at file a) (code_at file (a + 4)) s refl refl (kept file (call_at file a (code_at file a) (code_at file (a + 4))) s h)
+shape file a s h = call file a (code_at file a) (code_at file (a + 4)) s refl refl
+    (kept file (call_at file a (code_at file a) (code_at file (a + 4))) s h)
 
 same_place : (file : List ℕ) (a b : ℕ) (s t : Site) → IsJal file a s → IsPair file b t → s.back ≡ t.back → ⊥
 same_place file a b s t (imm, c, e, u) (low, d, f, v) h =
@@ -120,7 +135,8 @@ same_place file a b s t (imm, c, e, u) (low, d, f, v) h =
     let r : Some (Jal 1 imm) ≡ Some (Jalr 1 1 low) = sym c ∙ g in
     cc
 
-pub one_back : (file : List ℕ) (a b : ℕ) (s t : Site) → site_at file a ≡ Some s → site_at file b ≡ Some t → s.back ≡ t.back → s ≡ t
+pub one_back : (file : List ℕ) (a b : ℕ) (s t : Site) → site_at file a ≡ Some s → site_at file b ≡ Some t
+    → s.back ≡ t.back → s ≡ t
 one_back file a b s t h k e = same (place (shape file a s h).kind (shape file b t k).kind)
   where
     same : a ≡ b → s ≡ t

@@ -35,14 +35,16 @@ start file places =
       done = λ k l. absurd (omega arith);
     }
 
-next_done : (places : List ℕ) (next next' i : ℕ) → ((k : ℕ) → k < i → get_or places k 0 < next) → next ≤ next' → get_or places i 0 < next'
+next_done : (places : List ℕ) (next next' i : ℕ) → ((k : ℕ) → k < i → get_or places k 0 < next) → next ≤ next'
+    → get_or places i 0 < next'
     → (k : ℕ) → k < i + 1 → get_or places k 0 < next'
 next_done places next next' i done up here k l = elim (cases_lt k i) [
   | inl j ↦ let h : get_or places k 0 < next = done k j in omega (arith, h, up)
   | inr j ↦ let e : i ≡ k = omega arith in subst (λ x. get_or places x 0 < next') e here
 ]
 
-pub skip : (file : List ℕ) (places : List ℕ) (list : List Site) (next i : ℕ) → AreBelow file places list next i → get_or places i 0 < next
+pub skip : (file : List ℕ) (places : List ℕ) (list : List Site) (next i : ℕ) → AreBelow file places list next i
+    → get_or places i 0 < next
     → AreBelow file places list next (i + 1)
 skip file places list next i h l =
     record {
@@ -54,7 +56,8 @@ skip file places list next i h l =
     }
 
 -- a site behind those below is at the next place or above
-from_place : (file : List ℕ) (places : List ℕ) (list : List Site) (next i a : ℕ) (s : Site) → AreBelow file places list next i → IsNonDecreasing places → HaveAll file places
+from_place : (file : List ℕ) (places : List ℕ) (list : List Site) (next i a : ℕ) (s : Site)
+    → AreBelow file places list next i → IsNonDecreasing places → HaveAll file places
     → i < length places → site_at file a ≡ Some s → next ≤ a → get_or places i 0 ≤ a
 from_place file places list next i a s h rise all m e l =
     let (k, p, n, g, t) = Any-from_list_any (λ p. p == a) places (all a s e) in
@@ -65,8 +68,10 @@ from_place file places list next i a s h rise all m e l =
       | inr j ↦ let u : get_or places i 0 ≤ get_or places k 0 = rise i k 0 (omega (arith, j)) n in omega (arith, u, r)
     ]
 
-pub none : (file : List ℕ) (places : List ℕ) (list : List Site) (next i p : ℕ) → AreBelow file places list next i → IsNonDecreasing places → HaveAll file places
-    → i < length places → get_or places i 0 ≡ p → next ≤ p → site_at file p ≡ None → AreBelow file places list (p + 1) (i + 1)
+pub none : (file : List ℕ) (places : List ℕ) (list : List Site) (next i p : ℕ) → AreBelow file places list next i
+    → IsNonDecreasing places → HaveAll file places
+    → i < length places → get_or places i 0 ≡ p → next ≤ p → site_at file p ≡ None
+    → AreBelow file places list (p + 1) (i + 1)
 none file places list next i p h rise all m e l o =
     record {
       each = h.each;
@@ -82,14 +87,18 @@ none file places list next i p h rise all m e l o =
       done = next_done places next (p + 1) i h.done (omega (arith, l)) (omega (arith, e));
     }
 
-pub some : (file : List ℕ) (places : List ℕ) (list : List Site) (next i p : ℕ) (s : Site) → AreBelow file places list next i → IsNonDecreasing places → HaveAll file places
-    → i < length places → get_or places i 0 ≡ p → next ≤ p → site_at file p ≡ Some s → AreBelow file places (list ++ s ∷ []) (p + 1) (i + 1)
+pub some : (file : List ℕ) (places : List ℕ) (list : List Site) (next i p : ℕ) (s : Site)
+    → AreBelow file places list next i → IsNonDecreasing places → HaveAll file places
+    → i < length places → get_or places i 0 ≡ p → next ≤ p → site_at file p ≡ Some s
+    → AreBelow file places (list ++ s ∷ []) (p + 1) (i + 1)
 some file places list next i p s h rise all m e l o =
     let at : s.addr ≡ p = (shape file p s o).addr in
     record {
       each = All-push (λ s. site_at file s.addr ≡ Some s) list s h.each (ap (site_at file) at ∙ o);
-      low = All-push (λ s. s.addr < p + 1) list s (λ k d n. let b : (get_or list k d).addr < next = h.low k d n in omega (arith, b, l)) (omega (arith, at));
-      ascending = all_pairs_push (λ s t. s.addr < t.addr) list s h.ascending (λ k d n. let b : (get_or list k d).addr < next = h.low k d n in omega (arith, b, l, at));
+      low = All-push (λ s. s.addr < p + 1) list s
+          (λ k d n. let b : (get_or list k d).addr < next = h.low k d n in omega (arith, b, l)) (omega (arith, at));
+      ascending = all_pairs_push (λ s t. s.addr < t.addr) list s h.ascending
+          (λ k d n. let b : (get_or list k d).addr < next = h.low k d n in omega (arith, b, l, at));
       every = λ a t f n. elim (cases_lt a next) [
         | inl j ↦ more list s t (h.every a t f j)
         | inr j ↦
@@ -105,7 +114,8 @@ some file places list next i p s h rise all m e l o =
     more xs y t (k, x, n, g, u) =
         (k, x, omega (arith, n, length-append xs (y ∷ [])), get_or-append xs (y ∷ []) x k n ∙ g, u)
 
-pub finish : (file : List ℕ) (places : List ℕ) (list : List Site) (next i : ℕ) → AreBelow file places list next i → HaveAll file places → length places ≤ i
+pub finish : (file : List ℕ) (places : List ℕ) (list : List Site) (next i : ℕ) → AreBelow file places list next i
+    → HaveAll file places → length places ≤ i
     → AreSites file list
 finish file places list next i h all m =
     record {
@@ -120,7 +130,8 @@ finish file places list next i h all m =
     }
 
 -- among the sites by address, none is at an address that the first not below it hasn't
-pub absent : (file : List ℕ) (sites : List Site) (a i : ℕ) → AreSites file sites → ((k : ℕ) (d : Site) → k < i → (get_or sites k d).addr < a)
+pub absent : (file : List ℕ) (sites : List Site) (a i : ℕ) → AreSites file sites
+    → ((k : ℕ) (d : Site) → k < i → (get_or sites k d).addr < a)
     → ((d : Site) → i < length sites → a < (get_or sites i d).addr) → None ≡ site_at file a
 absent file sites a i h below above = decide (site_at file a) refl
   where
@@ -135,12 +146,15 @@ absent file sites a i h below above = decide (site_at file a) refl
           | inr j ↦
               let b : a < (get_or sites i t).addr = above t (omega (arith, j, n)) in
               elim (cases_lt i k) [
-                | inl u ↦ let c : (get_or sites i t).addr < (get_or sites k t).addr = h.ascending i k t u n in omega (arith, b, c, at')
-                | inr u ↦ let v : i ≡ k = omega arith in let b' : a < (get_or sites k t).addr = subst (λ x. a < (get_or sites x t).addr) v b in omega (arith, b', at')
+                | inl u ↦ let c : (get_or sites i t).addr < (get_or sites k t).addr = h.ascending i k t u n in
+                    omega (arith, b, c, at')
+                | inr u ↦ let v : i ≡ k = omega arith in let b' : a < (get_or sites k t).addr =
+                    subst (λ x. a < (get_or sites x t).addr) v b in omega (arith, b', at')
               ]
         ])
 
-pub rising : (file : List ℕ) (sites : List Site) → AreSites file sites → (i j : ℕ) (d : Site) → i ≤ j → j < length sites → (get_or sites i d).addr ≤ (get_or sites j d).addr
+pub rising : (file : List ℕ) (sites : List Site) → AreSites file sites → (i j : ℕ) (d : Site) → i ≤ j → j < length sites
+    → (get_or sites i d).addr ≤ (get_or sites j d).addr
 rising file sites h i j d l m = elim (cases_lt i j) [
   | inl k ↦ let u : (get_or sites i d).addr < (get_or sites j d).addr = h.ascending i j d k m in omega (arith, u)
   | inr k ↦ let e : j ≡ i = omega arith in rw e (omega arith)

@@ -22,7 +22,8 @@ next_use file from a before gap b l = elim (cases_lt b from) [
 ]
 
 pub behind_use : (file : List ℕ) (from a : ℕ) → ((b : ℕ) → b < from → uses_tp_at file b ≡ false)
-    → ((b : ℕ) → from ≤ b → b < a → code_word file b ≡ None) → is_some (code_word file a) ≡ true → uses_tp_at file a ≡ false
+    → ((b : ℕ) → from ≤ b → b < a → code_word file b ≡ None) → is_some (code_word file a) ≡ true
+    → uses_tp_at file a ≡ false
     → (b : ℕ) → b < a + 4 → uses_tp_at file b ≡ false
 behind_use file from a before gap word here b l =
     let m : a % 4 ≡ 0 = aligned file a (sym (same_some (word_at file) (code_place file a)) ∙ word) in

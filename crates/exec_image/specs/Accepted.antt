@@ -1,5 +1,5 @@
 -- What the checks keep of an accepted file, for those who use it.
-use Rattle.std.specs.Prelude.{◌≡◌, ℕ, ◌+◌, ◌%◌, ◌≤◌, true, false, List, length, All, Any, Some, IsSome}
+use Rattle.std.specs.Prelude.{◌≡◌, ◌≢◌, ℕ, ◌+◌, ◌%◌, ◌≤◌, true, false, List, length, All, Any, Some, IsSome}
 use Rattle.elf_spec.specs.declared.HeapName.{HeapName}
 use Rattle.elf_spec.specs.declared.Section.{Section}
 use Rattle.elf_spec.specs.Code.{code_place, code_word, is_executable}
@@ -18,7 +18,8 @@ use Rattle.exec_image.specs.Checks.{descriptions, has_mark, uses_tp_at}
 pub record IsCodeAt (file : List ℕ) (a place : ℕ) : Type 0 where
   pub aligned : a % 4 ≡ 0
   pub inside : place + 4 ≤ length file
-  pub loaded : Any (λ g. (is_loaded g ≡ true) × (is_set 1 g.flags ≡ true) × (g.vaddr ≤ a) × (a + 4 ≤ g.vaddr + g.file_size) × (place + g.vaddr ≡ g.offset + a)) (segments_of file)
+  pub loaded : Any (λ g. (is_loaded g ≡ true) × (is_set 1 g.flags ≡ true) × (g.vaddr ≤ a)
+      × (a + 4 ≤ g.vaddr + g.file_size) × (place + g.vaddr ≡ g.offset + a)) (segments_of file)
   pub plain : All (λ d. is_shared place 4 d.0 d.1 ≡ false) (descriptions file)
 
 -- an executable section has no byte that describes the file
@@ -34,6 +35,12 @@ abbrev pub HasTwoWords : List ℕ → HeapName → Type 0
 HasTwoWords file name =
     (a : ℕ) → heap_entry file name ≡ Some a → IsSome (code_word file a) × IsSome (code_word file (a + 4))
 
+-- two heap functions share no byte of their two words
+abbrev pub AreHeapApart : List ℕ → Type 0
+AreHeapApart file =
+    (n m : HeapName) (a b : ℕ) → n ≢ m → heap_entry file n ≡ Some a → heap_entry file m ≡ Some b
+    → is_shared a 8 b 8 ≡ false
+
 pub record AcceptedFacts (file : List ℕ) : Type 0 where
   pub readable : IsReadable file
   pub facts : ReadableFacts file
@@ -42,6 +49,7 @@ pub record AcceptedFacts (file : List ℕ) : Type 0 where
   pub sections : All (IsAlone file) (sections_of file)
   pub entry : IsSome (code_word file (e_entry file))
   pub heap : (name : HeapName) → HasTwoWords file name
+  pub heap_apart : AreHeapApart file
   pub unmarked : All (λ g. has_mark file g ≡ false) (segments_of file)
   pub few : e_phnum file ≤ 64
   pub memory : memory_size (segments_of file) ≤ 67108864

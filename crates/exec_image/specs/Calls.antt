@@ -18,7 +18,8 @@ pub record AreCalls (relocs : List Reloc) (calls : Calls) : Type 0 where
   pub pairs_rise : IsNonDecreasing calls.pairs.items
   pub pairs : (a : ℕ) → list_any (λ p. p == a) calls.pairs.items ≡ (has_reloc relocs 18 a || has_reloc relocs 19 a)
   pub all_rise : IsNonDecreasing calls.all.items
-  pub all : (a : ℕ) → list_any (λ p. p == a) calls.all.items ≡ (has_reloc relocs 17 a || (has_reloc relocs 18 a || has_reloc relocs 19 a))
+  pub all : (a : ℕ) → list_any (λ p. p == a) calls.all.items
+      ≡ (has_reloc relocs 17 a || (has_reloc relocs 18 a || has_reloc relocs 19 a))
 
 -- an address is one of the two words of this heap function
 abbrev pub is_word_of : ℕ → Option ℕ → Bool

@@ -25,7 +25,8 @@ is_not_words s = not (s.addr % 4 == 0) || not (s.size % 4 == 0)
 abbrev pub is_place_of : Section → Segment → Bool
 is_place_of s g =
     is_loaded g
-    && (is_set 1 g.flags && ((nat_le g.vaddr s.addr && nat_le (s.addr + s.size) (g.vaddr + g.file_size)) && (s.offset + g.vaddr == g.offset + s.addr)))
+    && (is_set 1 g.flags && ((nat_le g.vaddr s.addr && nat_le (s.addr + s.size) (g.vaddr + g.file_size))
+    && (s.offset + g.vaddr == g.offset + s.addr)))
 
 abbrev pub sections_in : Option Section → List Section
 sections_in (Some s) = s ∷ []
@@ -38,7 +39,8 @@ descriptions file =
     let sections : List Section = sections_of file in
     let table : Option Section = find is_symtab sections in
     (0, 52) ∷ (e_phoff file, 32 * e_phnum file) ∷ (e_shoff file, 40 * e_shnum file)
-    ∷ map (λ s. (s.offset, s.size)) (sections_in table ++ sections_in (strings_of sections table) ++ filter (is_kept_rela sections) sections)
+    ∷ map (λ s. (s.offset, s.size)) (sections_in table ++ sections_in (strings_of sections table)
+    ++ filter (is_kept_rela sections) sections)
 
 -- some byte of the section describes the file
 abbrev pub is_in_descriptions : List ℕ → Section → Bool

@@ -36,4 +36,5 @@ lacks_words file None = false
 -- the function hasn't the two words that it needs, or a symbol says so
 unfoldable pub is_small : List ℕ → HeapName → Bool
 is_small file name =
-    lacks_words file (heap_entry file name) || list_any (λ s. nat_le 1 s.size && nat_le s.size 7) (heap_symbols file name)
+    lacks_words file (heap_entry file name)
+    || list_any (λ s. nat_le 1 s.size && nat_le s.size 7) (heap_symbols file name)

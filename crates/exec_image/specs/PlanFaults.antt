@@ -29,7 +29,8 @@ no_site file lines = no_site_from file [] lines
 abbrev pub no_bit_from : List PlanLine → List PlanLine → Option PlanFault
 no_bit_from before [] = None
 no_bit_from before (l ∷ ls) =
-    when (nat_le 32 l.bit || list_any (λ m. m.bit == l.bit) before) (PlanBit l.bit) or_else no_bit_from (before ++ l ∷ []) ls
+    when (nat_le 32 l.bit || list_any (λ m. m.bit == l.bit) before) (PlanBit l.bit) or_else no_bit_from
+    (before ++ l ∷ []) ls
 
 unfoldable pub no_bit : List PlanLine → Option PlanFault
 no_bit lines = no_bit_from [] lines
@@ -74,5 +75,6 @@ out_of_reach file lines = out_of_reach_from file 0 lines
 -- all checks, in their order
 abbrev pub plan_fault : List ℕ → Plan → Option PlanFault
 plan_fault file plan =
-    no_site file plan.sites or_else no_bit plan.sites or_else strange_masks plan.sites plan.rows or_else bad_row plan.rows
+    no_site file plan.sites or_else no_bit plan.sites or_else strange_masks plan.sites plan.rows or_else bad_row
+    plan.rows
     or_else area_too_large plan.area or_else out_of_reach file plan.sites

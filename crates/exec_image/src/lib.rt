@@ -30,6 +30,3 @@ pub use plan_fault::PlanFault;
 pub use refusals::{FileRefusal, ImagePart};
 pub use site_spec::Site;
 pub use sites::Sites;
-
-#[cfg(test)]
-mod tests;

@@ -12,6 +12,3 @@ pub use machine::{Flat, start};
 pub use machine_run::{RunEnd, Stepped};
 pub use machine_spec::FaultKind;
 pub use running::run_flat;
-
-#[cfg(test)]
-mod tests;

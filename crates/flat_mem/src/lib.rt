@@ -11,6 +11,3 @@ mod words;
 
 pub use loading::load;
 pub use memory::FlatMem;
-
-#[cfg(test)]
-mod tests;

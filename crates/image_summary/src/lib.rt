@@ -4,6 +4,3 @@
 mod lines;
 
 pub use lines::summary;
-
-#[cfg(test)]
-mod tests;

@@ -14,6 +14,3 @@ pub use read::read_relocs;
 pub use refusals::RelocRefusal;
 pub use relocs::Relocs;
 pub use tables::{is_executable, is_kept, symbol_table};
-
-#[cfg(test)]
-mod tests;

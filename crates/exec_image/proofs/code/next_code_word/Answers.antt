@@ -10,7 +10,8 @@ next c =
     let m : c.div_ceil-at.result * 4 % 4 ≡ 0 = omega arith in
     let least : c.args.from ≤ c.div_ceil-at.result * 4 = omega arith in
     let near : c.div_ceil-at.result * 4 < c.args.from + 4 = omega arith in
-    next_word c.args.file.now c.args.segments.now c.args.code.now c.first_above-first.result c.args.from (c.div_ceil-at.result * 4) c.max.result d c.requires
+    next_word c.args.file.now c.args.segments.now c.args.code.now c.first_above-first.result c.args.from
+    (c.div_ceil-at.result * 4) c.max.result d c.requires
     c.if-first-code.true m least near c.first_above-first.ensures.below
     (c.first_above-first.ensures.above c.first_above-first.result d (omega arith) c.if-first-code.true) c.max.ensures
 
@@ -31,5 +32,6 @@ returns-else-first-code-clause-none c = λ b l.
     let m : c.div_ceil-at.result * 4 % 4 ≡ 0 = omega arith in
     let near : c.div_ceil-at.result * 4 < c.args.from + 4 = omega arith in
     no_word c.args.file.now b
-    (gap_behind c.args.file.now c.args.segments.now c.args.code.now c.first_above-first.result c.args.from (c.div_ceil-at.result * 4) b c.requires
+    (gap_behind c.args.file.now c.args.segments.now c.args.code.now c.first_above-first.result c.args.from
+    (c.div_ceil-at.result * 4) b c.requires
     c.first_above-first.ensures.below m near l (omega arith))

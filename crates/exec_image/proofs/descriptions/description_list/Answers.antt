@@ -7,8 +7,10 @@ use Rattle.exec_image.proofs.descriptions.description_list.Goals as goal
 
 pub returns : goal.returns
 returns c =
-    let n : length c.args.elf.now.segments ≡ e_phnum c.args.file.now = count_segments c.args.elf.now c.args.file.now c.requires in
-    let m : length c.args.elf.now.sections ≡ e_shnum c.args.file.now = count_sections c.args.elf.now c.args.file.now c.requires in
+    let n : length c.args.elf.now.segments ≡ e_phnum c.args.file.now =
+    count_segments c.args.elf.now c.args.file.now c.requires in
+    let m : length c.args.elf.now.sections ≡ e_shnum c.args.file.now =
+    count_sections c.args.elf.now c.args.file.now c.requires in
     let e : c.args.elf.now.sections ≡ sections_of c.args.file.now = rw c.requires.fields refl in
     rw (
       c.in_ok-push_kept.ensures,

@@ -6,5 +6,6 @@ use Rattle.exec_image.proofs.descriptions.push_kept.Given as goal
 
 abbrev pub invariant-loop-s : goal.invariant-loop-s
 invariant-loop-s l =
-    l.list.items ++ parts_of (map (λ s. (s.offset, s.size)) (filter (is_kept_rela l.sections) (drop l.s-index l.sections)))
+    l.list.items ++ parts_of (map (λ s. (s.offset, s.size))
+    (filter (is_kept_rela l.sections) (drop l.s-index l.sections)))
     ≡ l.initial.list.items ++ parts_of (map (λ s. (s.offset, s.size)) (filter (is_kept_rela l.sections) l.sections))

@@ -5,4 +5,5 @@ use Rattle.elf_spec.specs.Memory.{image_end, is_loaded}
 use Rattle.exec_image.proofs.segments.image_end.Given as goal
 
 abbrev pub invariant-loop-g : goal.invariant-loop-g
-invariant-loop-g l = fold (λ end s. max end (s.vaddr + s.mem_size)) l.end (filter is_loaded (drop l.g-index l.segments)) ≡ image_end l.segments
+invariant-loop-g l = fold (λ end s. max end (s.vaddr + s.mem_size)) l.end (filter is_loaded (drop l.g-index l.segments))
+    ≡ image_end l.segments

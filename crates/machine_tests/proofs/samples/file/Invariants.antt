@@ -1,5 +1,5 @@
 use Rattle.std.proofs.Common.{◌≡◌, ◌≤◌, [], length, take}
-use Rattle.flat_machine.proofs.tests.file.Given as goal
+use Rattle.machine_tests.proofs.samples.file.Given as goal
 
 -- the words so far have been added, of at most 64
 abbrev pub invariant-loop-word : goal.invariant-loop-word

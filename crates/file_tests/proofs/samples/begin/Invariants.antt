@@ -1,6 +1,6 @@
--- The words so far are added.
 use Rattle.std.proofs.Common.{◌≡◌, [], take}
-use Rattle.reloc_table.proofs.tests.begin.Given as goal
+use Rattle.file_tests.proofs.samples.begin.Given as goal
 
+-- the words so far have been added
 abbrev pub invariant-loop-word : goal.invariant-loop-word
 invariant-loop-word l = l.builder ≡ record { words = take l.word-index l.words; symbols = []; relocs = [] }

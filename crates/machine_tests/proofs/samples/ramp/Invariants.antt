@@ -1,5 +1,5 @@
 use Rattle.std.proofs.Common.{◌≡◌, [], length}
-use Rattle.flat_mem.proofs.tests.program.Given as goal
+use Rattle.machine_tests.proofs.samples.ramp.Given as goal
 
 -- a word has been added in each turn, and nothing else
 abbrev pub invariant-loop-k : goal.invariant-loop-k

@@ -3,9 +3,9 @@
 ghost use Rattle.std.specs.Prelude.{◌≤◌, length, All, IfOk};
 ghost use Rattle.elf_write.specs.Inputs.{IsInside, IsSmall};
 
-use crate::{with_new_segments, with_segments};
 use elf_read::{half, read_elf, word};
 use elf_spec::{ByteList, NewSegment, Patch};
+use elf_write::{with_new_segments, with_segments};
 use rv_build::Builder;
 use std::alloc::{AllocError, Global};
 use std::test::Fail;
