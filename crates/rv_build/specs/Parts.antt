@@ -21,6 +21,16 @@ with_symbol p s = record { words = p.words; symbols = p.symbols ++ s ∷ []; rel
 abbrev pub with_reloc : Parts → Reloc → Parts
 with_reloc p r = record { words = p.words; symbols = p.symbols; relocs = p.relocs ++ r ∷ [] }
 
+-- the parts with more at the end
+abbrev pub with_code : Parts → List ℕ → Parts
+with_code p ws = record { words = p.words ++ ws; symbols = p.symbols; relocs = p.relocs }
+
+abbrev pub with_symbols : Parts → List Label → Parts
+with_symbols p ss = record { words = p.words; symbols = p.symbols ++ ss; relocs = p.relocs }
+
+abbrev pub with_relocs : Parts → List Reloc → Parts
+with_relocs p rs = record { words = p.words; symbols = p.symbols; relocs = p.relocs ++ rs }
+
 -- the parts are few and small enough for a file of at most 9 million bytes, and the symbol of each
 -- entry has at most 24 bits (psABI, "Relocations": the index in r_info)
 pub record AreSmall (p : Parts) : Type 0 where

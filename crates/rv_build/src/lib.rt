@@ -1,10 +1,13 @@
 // Small linked executables for tests: code at 0x10100 with its symbols and its relocation entries.
 #![tactic(auto)]
 
+mod assembly;
 mod builder;
 mod fields;
+mod generator;
 mod head;
 mod labels;
+mod laws;
 mod places;
 mod sections;
 mod tables;
@@ -12,3 +15,5 @@ mod tables;
 mod tests;
 
 pub use builder::Builder;
+pub use generator::generate;
+pub use laws::the_words_decode_to_the_listing;
