@@ -1,6 +1,7 @@
 -- The entries of built heap functions, and where they stand.
-use Rattle.std.specs.Prelude.{◌≡◌, ℕ, ◌+◌, ◌*◌, ◌%◌, ◌<◌, ◌≤◌, List, length}
-use Rattle.heap_spec.specs.Service.{Entries, words_at}
+use Rattle.std.specs.Prelude.{ℕ, List}
+use Rattle.heap_spec.specs.Service.{Entries}
+use Rattle.heap_spec.specs.Functions.{IsWord}
 use Rattle.heap_code.specs.declared.image.HeapImage.{HeapImage}
 
 abbrev pub entries_in : HeapImage → Entries
@@ -14,10 +15,6 @@ entries_in image = record {
   realloc_r = image.realloc_r;
   free_r = image.free_r;
 }
-
--- an address is that of one of the words
-abbrev pub IsWord : (text_at : ℕ) → List ℕ → ℕ → Type 0
-IsWord text_at words a = (words_at text_at ≤ a) × (a < words_at text_at + 4 * length words) × (a % 4 ≡ 0)
 
 -- each of the entries is the address of one of the words
 pub record Holds (text_at : ℕ) (words : List ℕ) (at : Entries) : Type 0 where

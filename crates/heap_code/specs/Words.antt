@@ -1,7 +1,6 @@
 -- The words of the heap functions.
 use Rattle.std.specs.Prelude.{ℕ, ◌+◌, ◌*◌, List, [], ◌∷◌, ◌++◌, length, flat_map}
 use Rattle.machine_spec.specs.Widths.{low_bytes}
-use Rattle.heap_spec.specs.Tables.{first_words}
 use Rattle.rv_isa.specs.declared.Op.TheVariants.{Add}
 use Rattle.rv_isa.specs.declared.Instr.TheVariants.{OpImm, Jalr}
 use Rattle.rv_isa.specs.Encoded.{encoded}
@@ -68,9 +67,6 @@ module _ (rows : List Row) (area : Area) (data_at : ℕ) where
     free_r = free_at text_at;
   }
 
--- the bytes of words, and those of the first contents of the tables
+-- the bytes of words
 abbrev pub bytes_of : List ℕ → List ℕ
 bytes_of words = flat_map (low_bytes 4) words
-
-abbrev pub first_tables : Area → List ℕ
-first_tables area = bytes_of (first_words area)

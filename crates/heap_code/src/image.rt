@@ -2,6 +2,7 @@
 ghost use Rattle.std.specs.Prelude.{◌≡◌, ◌+◌, ◌*◌, ◌≤◌, ◌<◌, ◌^◌, ◌==◌, All, IfOk, length, if◌then◌else◌};
 ghost use Rattle.heap_spec.specs.Places.{base_of};
 ghost use Rattle.heap_spec.specs.Service.{Suits, ServesHeap};
+ghost use Rattle.heap_spec.specs.Tables as tables;
 ghost use Rattle.heap_code.specs.Words as specs;
 ghost use Rattle.heap_code.specs.Images.{entries_in, Holds};
 
@@ -57,7 +58,7 @@ pub fn build(
     ensures entries { IfOk result (λ image. entries_in image
         ≡ specs.entries plan.now.rows plan.now.area data_at text_at) }
     ensures inside { IfOk result (λ image. Holds text_at image.words (entries_in image)) }
-    ensures tables { IfOk result (λ image. image.tables ≡ specs.first_tables plan.now.area) }
+    ensures tables { IfOk result (λ image. image.tables ≡ tables.first_tables plan.now.area) }
     ensures size { IfOk result (λ image. length image.tables
         ≡ 128 + 16 * plan.now.area.chunks + (if plan.now.area.fallback == 0 then 0 else 8)) }
     ensures serves { IfOk result (λ image.

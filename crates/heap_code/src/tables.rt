@@ -1,6 +1,7 @@
 // The first contents of the tables.
 ghost use Rattle.std.specs.Prelude.{◌≡◌, ◌≤◌, ◌++◌, replicate, IfOk, OnOk};
 ghost use Rattle.machine_spec.specs.Widths.{low_bytes};
+ghost use Rattle.heap_spec.specs.Tables as tables;
 ghost use Rattle.heap_spec.specs.Tables.{idle_rows};
 ghost use Rattle.heap_code.specs.Words as specs;
 
@@ -13,7 +14,7 @@ const NONE: u32 = 0xFFFF_FFFF;
 /// The bytes of the first words of the tables.
 #[tactic(auto, unfolding(heap_spec::specs::Tables::first_words))]
 pub fn first_tables(alloc: Global, area: Area) -> Result<Vec<u8>, AllocError>
-    ensures { IfOk result (λ bytes. bytes.items ≡ specs.first_tables area) }
+    ensures { IfOk result (λ bytes. bytes.items ≡ tables.first_tables area) }
 {
     let mut bytes = Vec::new(alloc);
     let first = if area.fallback == 0 { NONE } else { 0 };

@@ -6,7 +6,12 @@ pub mod FewSites
 pub mod PartsFit
 pub mod Segments
 pub mod CodeMemory
+pub mod Behind
 pub mod NewCode
 pub mod Plains
+pub mod HeapEntries
+pub mod Suiting
+pub mod Texts
+pub mod HeapWords
 pub mod Ground
 pub mod Readable

@@ -125,13 +125,13 @@ IsAmong q ps = Any (λ p. p ≡ q) ps
 among_later : (q p : Patch) (ps : List Patch) → IsAmong q ps → IsAmong q (p ∷ ps)
 among_later q p ps (i, x, low, is, e) = (suc i, x, omega (arith, low), is, e)
 
-among_front : (q : Patch) (ps rs : List Patch) → IsAmong q ps → IsAmong q (ps ++ rs)
+pub among_front : (q : Patch) (ps rs : List Patch) → IsAmong q ps → IsAmong q (ps ++ rs)
 among_front q [] rs (i, x, low, is, e) = absurd (omega (arith, low))
 among_front q (p ∷ ps) rs (zero, x, low, is, e) = (zero, x, omega arith, is, e)
 among_front q (p ∷ ps) rs (suc i, x, low, is, e) =
     among_later q p (ps ++ rs) (among_front q ps rs (i, x, omega (arith, low), is, e))
 
-among_behind : (q : Patch) (ps rs : List Patch) → IsAmong q rs → IsAmong q (ps ++ rs)
+pub among_behind : (q : Patch) (ps rs : List Patch) → IsAmong q rs → IsAmong q (ps ++ rs)
 among_behind q [] rs h = h
 among_behind q (p ∷ ps) rs h = among_later q p (ps ++ rs) (among_behind q ps rs h)
 
@@ -147,7 +147,7 @@ patch_among v w place (Some at) e same =
     let word : moved ≡ last = ap (λ x. record { offset = place; word = x }) same in
     (zero, first, omega arith, refl, there ∙ word)
 
-among_at : (file : List ℕ) (a : ℕ) (ws : List ℕ) (j w place : ℕ) → slice_get ws j ≡ Some w
+pub among_at : (file : List ℕ) (a : ℕ) (ws : List ℕ) (j w place : ℕ) → slice_get ws j ≡ Some w
     → code_place file (a + 4 * j) ≡ Some place
     → IsAmong (record { offset = place; word = w }) (patches_at file a ws)
 among_at file a [] j w place e there = absurd (cc)
@@ -197,11 +197,11 @@ has_patch file plan k i w place line s e at f there =
     (jump_words (stub_at (text_at file) m) s) i ≡ Some w) number f) there
 
 -- the bytes of words
-length-word_bytes : (w : ℕ) → length (word_bytes w) ≡ 4
+pub length-word_bytes : (w : ℕ) → length (word_bytes w) ≡ 4
 unfolding word_bytes
 length-word_bytes w = refl
 
-length-words : (ws : List ℕ) → length (flat_map word_bytes ws) ≡ 4 * length ws
+pub length-words : (ws : List ℕ) → length (flat_map word_bytes ws) ≡ 4 * length ws
 length-words [] = refl
 length-words (w ∷ ws) = omega (
   arith,
@@ -211,7 +211,7 @@ length-words (w ∷ ws) = omega (
 )
 
 -- byte j of word i
-words_at : (ws : List ℕ) (i j w : ℕ) → slice_get ws i ≡ Some w → j < 4
+pub words_at : (ws : List ℕ) (i j w : ℕ) → slice_get ws i ≡ Some w → j < 4
     → slice_index (flat_map word_bytes ws) (4 * i + j) ≡ slice_index (word_bytes w) j
 words_at [] i j w e small = absurd (cc)
 words_at (v ∷ ws) zero j w e small =

@@ -1,9 +1,8 @@
 -- What is fetched from the memory of a new file: code words without a patch as in the source, patched
 -- words, and the words of the new text.
-use Rattle.std.proofs.Common.{◌≡◌, ◌⊎◌, ℕ, ◌+◌, ◌-◌, ◌%◌, ◌<◌, ◌≤◌, List, [], ◌∷◌, ◌++◌, Bool, true, false, ◌&&◌, length, get_or, map, refl, ap, sym, ◌∙◌, subst, arith, inl, inr, append-nil}
-use Rattle.std.specs.Prelude.{Some, option_map, nat_le, nat_lt, slice_index, filter, All, Any}
-use Rattle.std.proofs.lemmas.Bool.Decides.{nat_tests}
-use Rattle.std.proofs.lemmas.List.{map-append}
+use Rattle.std.proofs.Common.{◌≡◌, ◌⊎◌, ℕ, ◌+◌, ◌-◌, ◌%◌, ◌<◌, ◌≤◌, List, [], ◌∷◌, ◌++◌, true, length, get_or, map, refl, ap, sym, ◌∙◌, subst, arith, inl, inr}
+use Rattle.std.specs.Prelude.{Some, option_map, replicate, slice_index, filter, All, Any}
+use Rattle.std.proofs.lemmas.List.{get_or_append_left, map-append}
 use Rattle.elf_spec.specs.declared.NewSegment.{NewSegment}
 use Rattle.elf_spec.specs.declared.Patch.{Patch}
 use Rattle.elf_spec.specs.declared.Segment.{Segment}
@@ -11,9 +10,10 @@ use Rattle.elf_spec.specs.Code.{code_place}
 use Rattle.elf_spec.specs.Fields.{byte_at, is_set, word_at, word_bytes}
 use Rattle.elf_spec.specs.Memory.{image_end, is_loaded}
 use Rattle.elf_spec.specs.Records.{segments_of}
-use Rattle.elf_read.specs.Readable.{ReadableFacts}
-use Rattle.new_file_spec.specs.Rewritten.{text_segment}
-use Rattle.machine_spec.specs.Memory.{Range, covers, shape_of, stack, memory_of, range_at, range_of, byte_of}
+use Rattle.elf_spec.specs.NewFile.{front}
+use Rattle.elf_read.specs.Readable.{IsLoadedInside, ReadableFacts}
+use Rattle.site_spec.specs.Places.{text_at}
+use Rattle.machine_spec.specs.Memory.{Range, shape_of, memory_of, range_at, range_of, byte_of}
 use Rattle.machine_spec.specs.Widths.{number_of}
 use Rattle.flat_spec.specs.Stores.{allows_fetch, allows_store, fetched}
 use Rattle.flat_spec.proofs.Memories.{same_executable, same_writable}
@@ -21,9 +21,11 @@ use Rattle.sym_spec.specs.Plain.{is_in}
 use Rattle.elf_write.specs.Layout.{IsBeside, IsKept}
 use Rattle.elf_write.specs.NewMemory.{NewMemory, ranges_behind}
 use Rattle.elf_write.specs.Places.{InFile, place_at}
+use Rattle.elf_write.proofs.Written.{length-front}
 use Rattle.exec_image.specs.Accepted.{AcceptedFacts}
-use Rattle.new_file_laws.proofs.Segments.{IsOneOf, all_of, in_segment, loaded_inside, place_above, range_above, range_there, some_one}
+use Rattle.new_file_laws.proofs.Segments.{IsOneOf, all_of, in_segment, loaded_inside, none_above, range_is, range_or, range_there, some_one}
 use Rattle.new_file_laws.proofs.CodeWords.{behind_header}
+use Rattle.new_file_laws.proofs.Behind.{HasText, text_range}
 use Rattle.new_file_laws.proofs.CodeMemory.{code_loaded, code_offset, code_segment}
 
 -- ranges whose flags are those of the new file's memory
@@ -85,7 +87,7 @@ file_number : (file : List ℕ) (at : ℕ) → number_of
 unfolding word_at
 file_number file at = let z : at + 0 ≡ at = omega arith in rw z (omega arith)
 
-word_number : (w : ℕ) → number_of (slice_index (word_bytes w) 0 ∷ slice_index (word_bytes w) 1 ∷ slice_index
+pub word_number : (w : ℕ) → number_of (slice_index (word_bytes w) 0 ∷ slice_index (word_bytes w) 1 ∷ slice_index
     (word_bytes w) 2 ∷ slice_index (word_bytes w) 3 ∷ []) ≡ w
 unfolding word_bytes
 word_number w = omega arith
@@ -145,65 +147,48 @@ patched_fetched file patches segments new a place w facts m e some =
     puts (p, one, same) k small = (subst Puts same (all_of Puts patches p m.patched one)) (a + k) k small
         (code_offset file a place k facts e small)
 
--- the new text is a range of code before the stack
-abbrev pub text_range : ℕ → List ℕ → Range
-text_range at bytes = record { start = at; writable = false; executable = true; bytes = bytes }
+-- behind the image there are the added ranges and the stack
+pub new_range : (file : List ℕ) (patches : List Patch) (segments : List NewSegment) (new : List ℕ) (a : ℕ)
+    → ReadableFacts file → NewMemory file patches segments new → image_end (segments_of file) ≤ a
+    → range_at (memory_of new) a ≡ range_at (ranges_behind segments) a
+new_range file patches segments new a facts m high =
+    let old : List ℕ = front file patches (length segments) in
+    let inside : All (IsLoadedInside (length old)) (segments_of file) =
+    subst (λ n. All (IsLoadedInside n) (segments_of file)) (sym (length-front file patches (length segments)))
+    facts.segments in
+    ap (λ x. range_at x a) m.ranges
+    ∙ (range_is old (segments_of file) (ranges_behind segments) a inside
+    ∙ ap (λ o. range_or old o (range_at (ranges_behind segments) a)) (none_above file a high))
 
-behind_is : (at : ℕ) (bytes : List ℕ) → 0 < length bytes
-    → ranges_behind (text_segment at bytes ∷ []) ≡ text_range at bytes ∷ stack ∷ []
-behind_is at bytes some =
-    let long : nat_lt 0 (length bytes) ≡ true = grind (arith, nat_tests) in
-    let none : length bytes - length bytes ≡ 0 = omega arith in
-    rw (long, none) (ap (λ b. text_range at b ∷ stack ∷ []) (append-nil bytes))
+-- an address of the new text has its range, and its byte
+pub text_range_there : (file : List ℕ) (patches : List Patch) (segments : List NewSegment) (text new : List ℕ) (a : ℕ)
+    → ReadableFacts file → NewMemory file patches segments new → HasText file text segments
+    → image_end (segments_of file) ≤ text_at file → text_at file ≤ a → a < text_at file + length text
+    → range_at (memory_of new) a ≡ Some (text_range (text_at file) text)
+text_range_there file patches segments text new a facts m has end low high =
+    new_range file patches segments new a facts m (omega (arith, end, low)) ∙ has.there a low high
 
-first_covers : (r : Range) (rs : List Range) (a : ℕ) → covers a r ≡ true → range_at (r ∷ rs) a ≡ Some r
-first_covers r rs a e = rw e refl
-
-first_misses : (r : Range) (rs : List Range) (a : ℕ) → covers a r ≡ false → range_at (r ∷ rs) a ≡ range_at rs a
-first_misses r rs a e = rw e refl
-
-range_in_text : (at : ℕ) (bytes : List ℕ) (a : ℕ) → at ≤ a → a < at + length bytes
-    → range_at (ranges_behind (text_segment at bytes ∷ [])) a ≡ Some (text_range at bytes)
-range_in_text at bytes a low high =
-    ap (λ m. range_at m a) (behind_is at bytes (omega (arith, low, high)))
-    ∙ first_covers (text_range at bytes) (stack ∷ []) a (grind (arith, nat_tests))
-
-pub range_past_text : (at : ℕ) (bytes : List ℕ) (a : ℕ) → 0 < length bytes → at + length bytes ≤ a
-    → range_at (ranges_behind (text_segment at bytes ∷ [])) a ≡ range_at (stack ∷ []) a
-range_past_text at bytes a some high =
-    ap (λ m. range_at m a) (behind_is at bytes some)
-    ∙ first_misses (text_range at bytes) (stack ∷ []) a (missed (nat_le at a) (at + length bytes) a high)
-  where
-    missed : (b : Bool) (end a : ℕ) → end ≤ a → (b && nat_lt a end) ≡ false
-    missed true end a h = grind (arith, nat_tests)
-    missed false end a h = refl
+pub text_byte_there : (file : List ℕ) (patches : List Patch) (segments : List NewSegment) (text new : List ℕ) (a : ℕ)
+    → ReadableFacts file → NewMemory file patches segments new → HasText file text segments
+    → image_end (segments_of file) ≤ text_at file → text_at file ≤ a → a < text_at file + length text
+    → byte_of (memory_of new) a ≡ Some (slice_index text (a - text_at file))
+text_byte_there file patches segments text new a facts m has end low high =
+    byte_in (memory_of new) a (text_range (text_at file) text)
+    (text_range_there file patches segments text new a facts m has end low high)
+    ∙ ap Some (get_or_append_left text (replicate (length text - length text) 0) 0 (a - text_at file)
+    (omega (arith, low, high)))
 
 -- a word of the new text
-pub text_fetched : (file : List ℕ) (patches : List Patch) (at : ℕ) (bytes new : List ℕ) (a w : ℕ) → ReadableFacts file
-    → NewMemory file patches (text_segment at bytes ∷ []) new
-    → image_end (segments_of file) ≤ at → a % 4 ≡ 0 → at ≤ a → a + 4 ≤ at + length bytes
-    → ((k : ℕ) → k < 4 → slice_index bytes (a - at + k) ≡ slice_index (word_bytes w) k)
+pub text_fetched : (file : List ℕ) (patches : List Patch) (segments : List NewSegment) (text new : List ℕ) (a w : ℕ)
+    → ReadableFacts file → NewMemory file patches segments new → HasText file text segments
+    → image_end (segments_of file) ≤ text_at file → a % 4 ≡ 0 → text_at file ≤ a → a + 4 ≤ text_at file + length text
+    → ((k : ℕ) → k < 4 → slice_index text (a - text_at file + k) ≡ slice_index (word_bytes w) k)
     → fetched (memory_of new) a ≡ Some w
-text_fetched file patches at bytes new a w facts m end aligned low high same =
-    fetched_is (memory_of new) a (λ k. slice_index (word_bytes w) k) aligned runs there ∙ ap Some (word_number w)
-  where
-    range : (k : ℕ) → k < 4 → range_at (ranges_behind (text_segment at bytes ∷ [])) (a + k) ≡ Some (text_range at bytes)
-    range k small = range_in_text at bytes (a + k) (omega (arith, low)) (omega (arith, high, small))
-
-    runs : (k : ℕ) → k < 4 → allows_fetch (range_at (memory_of new) (a + k)) ≡ true
-    runs k small =
-        same_executable (memory_of new) (like_new file (text_segment at bytes ∷ [])) (a + k)
-        (same_shapes file patches (text_segment at bytes ∷ []) new m)
-        ∙ ap allows_fetch (range_above file (ranges_behind (text_segment at bytes ∷ [])) (a + k) facts
-        (omega (arith, end, low)) ∙ range k small)
-
-    byte : (k : ℕ) → k < 4 → byte_of (ranges_behind (text_segment at bytes ∷ [])) (a + k)
-        ≡ Some (slice_index bytes (a - at + k))
-    byte k small =
-        let place : a + k - at ≡ a - at + k = omega (arith, low) in
-        byte_in (ranges_behind (text_segment at bytes ∷ [])) (a + k) (text_range at bytes) (range k small)
-        ∙ ap (λ i. Some (slice_index bytes i)) place
-
-    there : (k : ℕ) → k < 4 → byte_of (memory_of new) (a + k) ≡ Some (slice_index (word_bytes w) k)
-    there k small = m.beside (a + k) (place_above file (a + k) (omega (arith, end, low)))
-        ∙ (byte k small ∙ ap Some (same k small))
+text_fetched file patches segments text new a w facts m has end aligned low high same =
+    fetched_is (memory_of new) a (λ k. slice_index (word_bytes w) k) aligned
+    (λ k small. ap allows_fetch (text_range_there file patches segments text new (a + k) facts m has end
+    (omega (arith, low)) (omega (arith, high, small))))
+    (λ k small. let place : a + k - text_at file ≡ a - text_at file + k = omega (arith, low) in
+    text_byte_there file patches segments text new (a + k) facts m has end (omega (arith, low))
+    (omega (arith, high, small)) ∙ ap Some (ap (slice_index text) place ∙ same k small))
+    ∙ ap Some (word_number w)

@@ -1,12 +1,16 @@
 -- The patches and the new text of a fitting plan fit an accepted file.
-use Rattle.std.proofs.Common.{◌≡◌, ◌≢◌, ℕ, zero, suc, ◌+◌, ◌<◌, ◌≤◌, ◌*◌, List, [], ◌∷◌, ◌++◌, length, get_or, refl, sym, subst, arith, Option, Some, None}
-use Rattle.std.specs.Prelude.{All, AllPairs, IsSome, slice_get, sum_by, true, false}
+use Rattle.std.proofs.Common.{◌≡◌, ◌≢◌, ℕ, zero, suc, ◌+◌, ◌-◌, ◌<◌, ◌≤◌, ◌*◌, List, [], ◌∷◌, ◌++◌, length, get_or, refl, ap, sym, ◌∙◌, subst, arith, Option, Some, None}
+use Rattle.std.specs.Prelude.{All, AllPairs, IsSome, flat_map, slice_get, sum_by, true, false}
+use Rattle.std.proofs.lemmas.Bool.Decides.{nat_tests}
 use Rattle.std.proofs.lemmas.List.Elements.{All-append, All-cons, All-head, All-nil, All-tail, All-weaker}
 use Rattle.std.proofs.lemmas.Option.{get_or_from_slice_get, slice_get_within}
+use Rattle.elf_spec.specs.declared.HeapName.{HeapName}
 use Rattle.elf_spec.specs.declared.NewSegment.{NewSegment}
 use Rattle.elf_spec.specs.declared.Patch.{Patch}
 use Rattle.elf_spec.specs.Code.{code_place, code_word}
+use Rattle.elf_spec.specs.Heap.{heap_entry, heap_names}
 use Rattle.elf_spec.specs.Records.{e_entry, e_phnum, e_phoff, entries, segment_at, segments_of}
+use Rattle.elf_read.specs.Checks.{is_shared}
 use Rattle.elf_read.specs.Refusals.{memory_size}
 use Rattle.elf_write.specs.Inputs.{IsInside, IsSmall}
 use Rattle.elf_write.specs.Kept.{AreAddedAbove}
@@ -14,15 +18,20 @@ use Rattle.elf_write.specs.Layout.{AreApart, IsApart}
 use Rattle.exec_image.specs.Accepted.{AcceptedFacts}
 use Rattle.plan_core.specs.declared.types.Plan.{Plan}
 use Rattle.plan_core.specs.declared.types.PlanLine.{PlanLine}
-use Rattle.site_spec.specs.Places.{stub_at, text_at}
+use Rattle.site_spec.specs.Places.{data_at, stub_at, text_at}
 use Rattle.site_spec.specs.Plans.{Fits}
-use Rattle.new_file_spec.specs.Rewritten.{jump_words, patch_to, patches_at, patches_from, text_segment}
-use Rattle.new_file_spec.specs.Rewritten.{patches_for, segments_for, text_for}
+use Rattle.site_spec.specs.Sites.{is_heap_word}
+use Rattle.heap_spec.specs.Functions.{entry_of}
+use Rattle.heap_spec.specs.Places.{area_end}
+use Rattle.heap_spec.specs.Service.{Entries}
+use Rattle.new_file_spec.specs.Rewritten.{data_segment, heap_jump, heap_patch, heap_patches, heap_segments, heap_text, jump_words, patch_to, patches_at, patches_for, patches_from, segments_for, text_for, text_segment}
 use Rattle.new_file_laws.specs.Parts.{AreParts}
 use Rattle.new_file_laws.proofs.CodeWords.{IsOfCode, behind_header, code_alone, tables_left, words_apart}
 use Rattle.new_file_laws.proofs.Plains.{IsTextPlace, text_place}
-use Rattle.new_file_laws.proofs.Lines.{IsJump, IsSiteLine, IsWordAt, each_at, few_sites, jumps, length_text, patches_step, site_lines}
+use Rattle.new_file_laws.proofs.Lines.{IsJump, IsSiteLine, IsWordAt, each_at, jumps, patches_step, site_lines}
 use Rattle.new_file_laws.proofs.SiteKinds.{few_words, words_differ}
+use Rattle.new_file_laws.proofs.HeapEntries.{IsEntry, all_of_names, entry_words, names_once, patches_of, site_words, two_words}
+use Rattle.new_file_laws.proofs.Texts.{AreTables, Sizes, length-heap_text, short_text, tables_fit}
 
 -- two lists of patches that are apart, and apart from each other, are apart
 apart_append : (ps qs : List Patch) → AreApart ps → AreApart qs → All (λ p. All (IsApart p) qs) ps → AreApart (ps ++ qs)
@@ -106,13 +115,10 @@ has_headers file facts = by_place (code_place file (e_entry file)) refl
         rw e at none in cc)
     by_place (Some p) e = let (i, g, low, is, at) = (facts.code (e_entry file) p e).loaded in some i (e_phnum file) low
 
-short_text : (file : List ℕ) (plan : Plan) → Fits file plan → length (text_for file plan) ≤ 65536
-short_text file plan fits = omega (arith, length_text file plan fits, few_sites file plan fits)
-
 added_above : (file : List ℕ) (plan : Plan) → AcceptedFacts file → Fits file plan
     → AreAddedAbove file (segments_for file plan)
 added_above file plan facts fits =
-    let short : length (text_for file plan) ≤ 65536 = short_text file plan fits in
+    let short : length (text_for file plan) ≤ 1424 = short_text file plan fits in
     let memory : memory_size (segments_of file) ≤ 67108864 = facts.memory in
     let place : IsTextPlace file = text_place file facts.end in
     let size : sum_by (λ (s : NewSegment). s.mem_size) (segments_for file plan) ≡ length (text_for file plan) =
@@ -144,12 +150,135 @@ parts_fit file plan facts fits = record {
   apart = jumps_apart file 0 plan.sites facts (site_lines file plan fits) fits.once;
   unpatched = tables_left (IsOfCode file) file (patches_for file plan) (code_alone file facts) codes;
   above = added_above file plan facts fits;
-  small = All-cons IsSmall (text_segment (text_at file) (text_for file plan)) [] (short_text file plan fits)
-      (All-nil IsSmall);
+  small = All-cons IsSmall (text_segment (text_at file) (text_for file plan)) []
+      (omega (arith, short_text file plan fits)) (All-nil IsSmall);
 }
   where
     codes : All (IsOfCode file) (patches_for file plan)
     codes = of_code file plan fits
+
+    inside : (p : Patch) → IsOfCode file p → IsInside (length file) p
+    inside p (a, e) = (facts.code a p.offset e).inside
+
+-- the words at two entries differ
+entries_differ : (a b i j : ℕ) → is_shared a 8 b 8 ≡ false → i < 2 → j < 2 → a + 4 * i ≢ b + 4 * j
+entries_differ a b i j apart l m same =
+    let low : a < b + 8 = omega (arith, same, l, m) in
+    let high : b < a + 8 = omega (arith, same, l, m) in
+    let met : is_shared a 8 b 8 ≡ true = grind (arith, nat_tests) in
+    let clash : true ≡ false = sym met ∙ apart in
+    cc
+
+names_apart : (file : List ℕ) (at : Entries) (names : List HeapName) → AcceptedFacts file
+    → AllPairs (λ n m. n ≢ m) names → AreApart (flat_map (patches_of file at) names)
+names_apart file at [] facts once = tt
+names_apart file at (name ∷ names) facts once =
+    by_entry (names_apart file at names facts
+    (λ i j d lt low. once (suc i) (suc j) d (omega (arith, lt)) (omega (arith, low)))) (heap_entry file name) refl
+  where
+    other_name : (k : ℕ) (other : HeapName) → slice_get names k ≡ Some other → name ≢ other
+    other_name k other e =
+        let below : k < length names = slice_get_within names k other e in
+        let value : get_or names k name ≡ other = get_or_from_slice_get names k other name e in
+        subst (λ (x : HeapName). name ≢ x) value (once 0 (suc k) name (omega arith) (omega (arith, below)))
+
+    by_entry : AreApart (flat_map (patches_of file at) names) → (o : Option ℕ) → heap_entry file name ≡ o
+        → AreApart (heap_patch file (entry_of at name) o ++ flat_map (patches_of file at) names)
+    by_entry rest None named = rest
+    by_entry rest (Some e) named =
+        apart_append (patches_at file e words) (flat_map (patches_of file at) names) (words_at_apart file e words facts)
+        rest
+        (All-weaker (IsWordAt file e words) (λ p. All (IsApart p) (flat_map (patches_of file at) names)) between
+        (patches_at file e words) (each_at file e words))
+      where
+        words : List ℕ
+        words = heap_jump (entry_of at name) e
+
+        apart : (p q : Patch) → IsWordAt file e words p → IsEntry file at names q → IsApart p q
+        apart p q (i, place, word) (k, other, b, is, there, (j, code, last)) =
+            words_apart file (e + 4 * i) (b + 4 * j) p.offset q.offset facts place code
+            (entries_differ e b i j (facts.heap_apart name other e b (other_name k other is) named there)
+            (two_words (entry_of at name) e i p.word word) (two_words (entry_of at other) b j q.word last))
+
+        between : (p : Patch) → IsWordAt file e words p → All (IsApart p) (flat_map (patches_of file at) names)
+        between p word =
+            All-weaker (IsEntry file at names) (IsApart p) (λ x entry. apart p x word entry)
+            (flat_map (patches_of file at) names) (all_of_names file at names)
+
+-- a patch at a chosen site and one at an entry share no byte
+site_and_entry : (file : List ℕ) (plan : Plan) (at : Entries) (p q : Patch) → AcceptedFacts file
+    → IsJump file 0 plan.sites p → IsEntry file at heap_names q → IsApart p q
+site_and_entry file plan at p q facts (k, line, s, e, site, (i, place, word)) (n, name, b, is, there, (j, code, last)) =
+    words_apart file (line.addr + 4 * i) (b + 4 * j) p.offset q.offset facts place code
+    (λ same. let heap : is_heap_word file (b + 4 * j) ≡ true = entry_words file name b j there
+    (two_words (entry_of at name) b j q.word last) in
+    let none : is_heap_word file (line.addr + 4 * i) ≡ false = site_words file line.addr i s site
+    (few_words file line.addr (stub_at (text_at file) (0 + k)) i p.word s site word) in
+    let clash : true ≡ false = sym heap ∙ (sym (ap (is_heap_word file) same) ∙ none) in cc)
+
+all_apart : (file : List ℕ) (plan : Plan) (at : Entries) → AcceptedFacts file → Fits file plan
+    → AreApart (patches_for file plan ++ heap_patches file at)
+all_apart file plan at facts fits =
+    apart_append (patches_for file plan) (heap_patches file at)
+    (jumps_apart file 0 plan.sites facts (site_lines file plan fits) fits.once)
+    (names_apart file at heap_names facts names_once)
+    (All-weaker (IsJump file 0 plan.sites) (λ p. All (IsApart p) (heap_patches file at)) between
+    (patches_for file plan) (jumps file 0 plan.sites (site_lines file plan fits)))
+  where
+    between : (p : Patch) → IsJump file 0 plan.sites p → All (IsApart p) (heap_patches file at)
+    between p jump =
+        All-weaker (IsEntry file at heap_names) (IsApart p)
+        (λ q entry. site_and_entry file plan at p q facts jump entry) (heap_patches file at) (all_of_names file at heap_names)
+
+heap_added : (file : List ℕ) (plan : Plan) (words : List ℕ) → AcceptedFacts file → Fits file plan
+    → length words ≤ 4096 → AreTables plan.area (data_at file)
+    → AreAddedAbove file (heap_segments file plan words)
+heap_added file plan words facts fits few tables =
+    let long : length (heap_text file plan words) ≡ 1536 + 4 * length words = length-heap_text file plan words fits in
+    let memory : memory_size (segments_of file) ≤ 67108864 = facts.memory in
+    let place : IsTextPlace file = text_place file facts.end in
+    let end : area_end plan.area (data_at file) - data_at file ≤ 25300000 = tables.memory in
+    let size : sum_by (λ (s : NewSegment). s.mem_size) (heap_segments file plan words)
+    ≡ length (heap_text file plan words) + (area_end plan.area (data_at file) - data_at file) =
+    omega arith in
+    record {
+      some = has_headers file facts;
+      above = (
+        place.above,
+        omega arith,
+        omega (arith, place.low, long, few),
+        (omega (arith, long, few), tables.fit, omega (arith, place.low, end), tt),
+      );
+      small = omega (arith, memory, size, long, few, end);
+    }
+
+-- with heap functions
+pub parts_fit_with_heap : (file : List ℕ) (plan : Plan) (words : List ℕ) (at : Entries) → Sizes → AcceptedFacts file
+    → Fits file plan → length words ≤ 4096
+    → AreParts file (patches_for file plan ++ heap_patches file at) (heap_segments file plan words)
+parts_fit_with_heap file plan words at sizes facts fits few = record {
+  inside = All-weaker (IsOfCode file) (IsInside (length file)) inside (patches_for file plan ++ heap_patches file at)
+      codes;
+  apart = all_apart file plan at facts fits;
+  unpatched = tables_left (IsOfCode file) file (patches_for file plan ++ heap_patches file at) (code_alone file facts)
+      codes;
+  above = heap_added file plan words facts fits few tables;
+  small = All-cons IsSmall (text_segment (text_at file) (heap_text file plan words))
+      (data_segment plan.area (data_at file) ∷ [])
+      (omega (arith, length-heap_text file plan words fits, few))
+      (All-cons IsSmall (data_segment plan.area (data_at file)) [] tables.small (All-nil IsSmall));
+}
+  where
+    tables : AreTables plan.area (data_at file)
+    tables = tables_fit sizes plan.area (data_at file) fits.chunks fits.area
+
+    of_entry : (p : Patch) → IsEntry file at heap_names p → IsOfCode file p
+    of_entry p (k, name, e, is, there, (j, code, word)) = (e + 4 * j, code)
+
+    codes : All (IsOfCode file) (patches_for file plan ++ heap_patches file at)
+    codes = All-append (IsOfCode file) (patches_for file plan) (heap_patches file at) (of_code file plan fits)
+        (All-weaker (IsEntry file at heap_names) (IsOfCode file) of_entry (heap_patches file at)
+        (all_of_names file at heap_names))
 
     inside : (p : Patch) → IsOfCode file p → IsInside (length file) p
     inside p (a, e) = (facts.code a p.offset e).inside

@@ -1,10 +1,9 @@
 -- The plain bytes of an accepted file in the memory of its new file: as in the source, and to be
 -- stored to as there.
-use Rattle.std.proofs.Common.{◌≡◌, ◌⊎◌, ℕ, ◌+◌, ◌-◌, ◌*◌, ◌/◌, ◌%◌, ◌<◌, ◌≤◌, List, [], ◌∷◌, Bool, true, false, not, ◌&&◌, ◌||◌, length, get_or, max, refl, ap, sym, ◌∙◌, subst, arith, inl, inr}
-use Rattle.std.specs.Prelude.{Some, None, is_some, nat_le, nat_lt, replicate, All}
+use Rattle.std.proofs.Common.{◌≡◌, ◌⊎◌, ℕ, ◌+◌, ◌-◌, ◌*◌, ◌/◌, ◌%◌, ◌<◌, ◌≤◌, List, [], ◌∷◌, Bool, true, false, not, ◌&&◌, ◌||◌, get_or, max, refl, ap, sym, ◌∙◌, subst, arith, inl, inr}
+use Rattle.std.specs.Prelude.{Some, None, is_some, nat_le, nat_lt, All}
 use Rattle.std.specs.List.{list_any}
 use Rattle.std.proofs.lemmas.Bool.Decides.{nat_tests}
-use Rattle.std.proofs.lemmas.List.{length-replicate}
 use Rattle.elf_spec.specs.declared.Patch.{Patch}
 use Rattle.elf_spec.specs.declared.NewSegment.{NewSegment}
 use Rattle.elf_spec.specs.declared.Segment.{Segment}
@@ -14,33 +13,33 @@ use Rattle.elf_spec.specs.Memory.{image_end, is_loaded}
 use Rattle.elf_spec.specs.NewFile.{up4096}
 use Rattle.elf_spec.specs.Records.{segments_of}
 use Rattle.site_spec.specs.Places.{text_at}
-use Rattle.new_file_spec.specs.Rewritten.{text_segment}
 use Rattle.machine_spec.specs.Memory.{stack, memory_of, range_at, byte_of}
 use Rattle.flat_spec.specs.Stores.{allows_store}
-use Rattle.flat_spec.proofs.Memories.{same_writable}
 use Rattle.sym_spec.specs.Plain.{is_code_byte, is_header_byte, is_in, is_plain, is_plain_store, is_stack}
-use Rattle.match_spec.specs.Parts.{text_room}
 use Rattle.elf_write.specs.Layout.{IsBeside}
 use Rattle.elf_write.specs.NewMemory.{NewMemory, ranges_behind}
 use Rattle.elf_write.specs.Places.{place_at, place_in}
 use Rattle.exec_image.specs.Accepted.{AcceptedFacts}
 use Rattle.exec_image.proofs.Finding.{found_passes, found_some}
 use Rattle.new_file_laws.proofs.CodeWords.{IsOfCode}
-use Rattle.new_file_laws.proofs.Segments.{IsLoadedAt, IsLoadedBy, IsOneOf, any_of, below_image_end, found_one, loaded_inside, one_address, place_above, place_there, range_above}
+use Rattle.new_file_laws.proofs.Segments.{IsLoadedAt, IsLoadedBy, IsOneOf, any_of, below_image_end, found_one, loaded_inside, one_address, place_above, place_there}
 use Rattle.new_file_laws.proofs.CodeMemory.{byte_word, code_below, code_bytes, code_loaded}
-use Rattle.new_file_laws.proofs.NewCode.{byte_in, like_new, range_past_text, same_shapes, stores_there}
+use Rattle.new_file_laws.proofs.Behind.{HasText, OnStack, stack_there, stack_writable}
+use Rattle.new_file_laws.proofs.NewCode.{byte_in, new_range, stores_there}
 
 -- where the new text stands
 pub record IsTextPlace (file : List ℕ) : Type 0 where
   pub above : image_end (segments_of file) ≤ text_at file
   pub low : text_at file ≤ 0x70001000
   pub aligned : text_at file % 4 ≡ 0
+  pub page : text_at file % 4096 ≡ 0
 
 pub text_place : (file : List ℕ) → image_end (segments_of file) ≤ 0x70000000 → IsTextPlace file
 text_place file low = record {
   above = up_above (image_end (segments_of file));
   low = up_low (image_end (segments_of file)) low;
   aligned = up_aligned (max 65536 (image_end (segments_of file)));
+  page = up_page (max 65536 (image_end (segments_of file)));
 }
   where
     up_above : (n : ℕ) → n ≤ up4096 (max 65536 n)
@@ -52,8 +51,8 @@ text_place file low = record {
     up_aligned : (n : ℕ) → up4096 n % 4 ≡ 0
     up_aligned n = omega arith
 
-abbrev pub OnStack : ℕ → Type 0
-OnStack a = (0x7FF00000 ≤ a) × (a < 0x80000000)
+    up_page : (n : ℕ) → up4096 n % 4096 ≡ 0
+    up_page n = omega arith
 
 -- a plain byte of the image
 pub record InImage (file : List ℕ) (a : ℕ) : Type 0 where
@@ -186,69 +185,41 @@ image_same file patches segments new a facts m code image =
               (get_or patches j d).offset facts image.no_code (image.segment, image.among, by) (code j d k).1;
         })
 
--- the stack is as in the source
-zeros_there : (start n : ℕ) (w x : Bool) (a : ℕ) → start ≤ a → a < start + n
-    → range_at (record { start = start; writable = w; executable = x; bytes = replicate n 0 } ∷ []) a
-    ≡ Some (record { start = start; writable = w; executable = x; bytes = replicate n 0 })
-zeros_there start n w x a low high =
-    let long : length {A = ℕ} (replicate n 0) ≡ n = length-replicate {A = ℕ} n 0 in
-    let inside : (nat_le start a && nat_lt a (start + length {A = ℕ} (replicate n 0))) ≡ true =
-    rw long (grind (arith, nat_tests)) in
-    rw inside refl
-
-stack_there : (a : ℕ) → OnStack a → range_at (stack ∷ []) a ≡ Some stack
-unfolding stack
-stack_there a on = zeros_there 0x7FF00000 0x100000 true false a on.0 (omega (arith, on.1))
-
-stack_writable : allows_store (Some stack) ≡ true
-unfolding stack
-stack_writable = refl
-
--- what a new text must be: not empty, and within its room
-pub record IsText (file bytes : List ℕ) : Type 0 where
-  pub some : 0 < length bytes
-  pub short : length bytes ≤ text_room
-
-behind_text : (file bytes : List ℕ) (a : ℕ) → IsTextPlace file → IsText file bytes → OnStack a
-    → range_at (ranges_behind (text_segment (text_at file) bytes ∷ [])) a ≡ Some stack
-behind_text file bytes a text long on =
-    range_past_text (text_at file) bytes a long.some (omega (arith, text.low, long.short, on.0)) ∙ stack_there a on
-
 above_image : (file : List ℕ) (a : ℕ) → IsTextPlace file → OnStack a → image_end (segments_of file) ≤ a
 above_image file a text on = omega (arith, text.above, text.low, on.0)
 
-stack_byte : (file : List ℕ) (patches : List Patch) (bytes new : List ℕ) (a : ℕ) → AcceptedFacts file → IsTextPlace file
-    → IsText file bytes
-    → NewMemory file patches (text_segment (text_at file) bytes ∷ []) new → OnStack a
+-- the stack is as in the source
+stack_byte : (file : List ℕ) (patches : List Patch) (segments : List NewSegment) (text new : List ℕ) (a : ℕ)
+    → IsTextPlace file → HasText file text segments → NewMemory file patches segments new → OnStack a
     → (byte_of (memory_of new) a ≡ byte_of (stack ∷ []) a) × (byte_of (memory_of file) a ≡ byte_of (stack ∷ []) a)
-stack_byte file patches bytes new a facts text long m on =
-    let none : place_at (segments_of file) a ≡ None = place_above file a (above_image file a text on) in (
-      m.beside a none ∙ (byte_in (ranges_behind (text_segment (text_at file) bytes ∷ [])) a stack
-          (behind_text file bytes a text long on)
+stack_byte file patches segments text new a place has m on =
+    let none : place_at (segments_of file) a ≡ None = place_above file a (above_image file a place on) in (
+      m.beside a none ∙ (byte_in (ranges_behind segments) a stack (has.stack a on)
           ∙ sym (byte_in (stack ∷ []) a stack (stack_there a on))),
       m.beside_before a none,
     )
 
-pub plain_same : (file : List ℕ) (patches : List Patch) (bytes new : List ℕ) (a : ℕ) → AcceptedFacts file
-    → IsTextPlace file → IsText file bytes
-    → NewMemory file patches (text_segment (text_at file) bytes ∷ []) new → All (IsOfCode file) patches
+pub plain_same : (file : List ℕ) (patches : List Patch) (segments : List NewSegment) (text new : List ℕ) (a : ℕ)
+    → AcceptedFacts file → IsTextPlace file → HasText file text segments → NewMemory file patches segments new
+    → All (IsOfCode file) patches
     → is_plain file a ≡ true → byte_of (memory_of new) a ≡ byte_of (memory_of file) a
-plain_same file patches bytes new a facts text long m code plain = at (plain_where file a plain)
+plain_same file patches segments text new a facts place has m code plain = at (plain_where file a plain)
   where
     at : OnStack a ⊎ InImage file a → byte_of (memory_of new) a ≡ byte_of (memory_of file) a
-    at (inl on) = let (x, y) = stack_byte file patches bytes new a facts text long m on in x ∙ sym y
-    at (inr image) = image_same file patches (text_segment (text_at file) bytes ∷ []) new a facts m code image
+    at (inl on) = let (x, y) = stack_byte file patches segments text new a place has m on in x ∙ sym y
+    at (inr image) = image_same file patches segments new a facts m code image
 
-pub plain_there : (file : List ℕ) (patches : List Patch) (bytes new : List ℕ) (a : ℕ) → AcceptedFacts file
-    → IsTextPlace file → IsText file bytes
-    → NewMemory file patches (text_segment (text_at file) bytes ∷ []) new → All (IsOfCode file) patches
+pub plain_there : (file : List ℕ) (patches : List Patch) (segments : List NewSegment) (text new : List ℕ) (a : ℕ)
+    → AcceptedFacts file → IsTextPlace file → HasText file text segments → NewMemory file patches segments new
+    → All (IsOfCode file) patches
     → is_plain file a ≡ true → is_some (byte_of (memory_of new) a) ≡ true
-plain_there file patches bytes new a facts text long m code plain =
-    ap is_some (plain_same file patches bytes new a facts text long m code plain) ∙ at (plain_where file a plain)
+plain_there file patches segments text new a facts place has m code plain =
+    ap is_some (plain_same file patches segments text new a facts place has m code plain)
+    ∙ at (plain_where file a plain)
   where
     at : OnStack a ⊎ InImage file a → is_some (byte_of (memory_of file) a) ≡ true
     at (inl on) =
-        let (x, y) = stack_byte file patches bytes new a facts text long m on in
+        let (x, y) = stack_byte file patches segments text new a place has m on in
         ap is_some (y ∙ byte_in (stack ∷ []) a stack (stack_there a on))
     at (inr image) =
         ap is_some (m.before a (place_in image.segment a)
@@ -266,12 +237,11 @@ both_true true true e = (refl, refl)
 both_true true false e = absurd (cc)
 both_true false q e = absurd (cc)
 
-pub storable : (file : List ℕ) (patches : List Patch) (bytes new : List ℕ) (a : ℕ) → AcceptedFacts file
-    → IsTextPlace file → IsText file bytes
-    → NewMemory file patches (text_segment (text_at file) bytes ∷ []) new → is_plain_store file a ≡ true
-    → allows_store (range_at (memory_of new) a) ≡ true
+pub storable : (file : List ℕ) (patches : List Patch) (segments : List NewSegment) (text new : List ℕ) (a : ℕ)
+    → AcceptedFacts file → IsTextPlace file → HasText file text segments → NewMemory file patches segments new
+    → is_plain_store file a ≡ true → allows_store (range_at (memory_of new) a) ≡ true
 unfolding is_plain_store
-storable file patches bytes new a facts text long m store =
+storable file patches segments text new a facts place has m store =
     at (store_cases (is_plain file a) (is_stack a)
     (list_any (λ s. is_in a s && is_set 2 s.flags) (segments_of file)) store)
   where
@@ -279,14 +249,11 @@ storable file patches bytes new a facts text long m store =
         → allows_store (range_at (memory_of new) a) ≡ true
     at (inl s) =
         let on : OnStack a = on_stack a s in
-        same_writable (memory_of new) (like_new file (text_segment (text_at file) bytes ∷ [])) a
-        (same_shapes file patches (text_segment (text_at file) bytes ∷ []) new m)
-        ∙ (ap allows_store (range_above file (ranges_behind (text_segment (text_at file) bytes ∷ [])) a facts.facts
-        (above_image file a text on) ∙ behind_text file bytes a text long on)
-        ∙ stack_writable)
+        ap allows_store (new_range file patches segments new a facts.facts m (above_image file a place on)
+        ∙ has.stack a on) ∙ stack_writable
     at (inr i) =
         let (g, found) = found_some (λ s. is_in a s && is_set 2 s.flags) (segments_of file) i in
         let (inside, flag) = both_true (is_in a g) (is_set 2 g.flags)
         (found_passes (λ s. is_in a s && is_set 2 s.flags) (segments_of file) g found) in
-        stores_there file patches (text_segment (text_at file) bytes ∷ []) new a g facts.facts m
+        stores_there file patches segments new a g facts.facts m
         (found_one (λ s. is_in a s && is_set 2 s.flags) (segments_of file) g found) inside flag

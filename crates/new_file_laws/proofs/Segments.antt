@@ -177,7 +177,7 @@ below_image_end file a g one e =
     (all_of (λ s. is_loaded s ≡ true → s.vaddr + s.mem_size ≤ image_end (segments_of file)) (segments_of file) g
     (ends_below (segments_of file)) one)
 
-none_above : (file : List ℕ) (a : ℕ) → image_end (segments_of file) ≤ a → find (is_in a) (segments_of file) ≡ None
+pub none_above : (file : List ℕ) (a : ℕ) → image_end (segments_of file) ≤ a → find (is_in a) (segments_of file) ≡ None
 none_above file a high = at (find (is_in a) (segments_of file)) refl
   where
     at : (o : Option Segment) → find (is_in a) (segments_of file) ≡ o → o ≡ None

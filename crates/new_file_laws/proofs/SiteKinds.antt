@@ -90,7 +90,7 @@ call_is file a (Some (Auipc rd imm)) n s h = inr (behind_auipc file a rd imm n s
 call_is file a _ n s h = absurd (cc)
 
 -- a site that is kept calls a code word
-kept : (file : List ℕ) (o : Option Site) (s : Site) → kept_site file o ≡ Some s
+pub kept : (file : List ℕ) (o : Option Site) (s : Site) → kept_site file o ≡ Some s
     → (o ≡ Some s) × (is_call_of_code file s ≡ true)
 kept file None s h = absurd (cc)
 kept file (Some t) s h = by_test (is_call_of_code file t) refl h

@@ -1,3 +1,4 @@
-pub mod LeftWords
+pub mod HeapNames
+pub mod HeapTexts
 pub mod ChosenSites
 pub mod NewFiles

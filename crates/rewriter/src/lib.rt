@@ -1,7 +1,8 @@
 // The rewriting of an accepted executable by a plan that fits it.
 #![tactic(auto)]
 
-mod left;
+mod data;
+mod entries;
 mod patches;
 mod places;
 mod refusal;

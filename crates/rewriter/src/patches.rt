@@ -4,15 +4,16 @@ ghost use Rattle.rv_isa.specs.Addresses.{minus};
 ghost use Rattle.rv_isa.specs.Encoded.{IsFormed};
 ghost use Rattle.elf_spec.specs.Code.{code_place};
 ghost use Rattle.site_spec.specs.Places.{text_at, stub_at};
-ghost use Rattle.site_spec.specs.Plans.{IsInReach};
-ghost use Rattle.new_file_spec.specs.Rewritten.{patch_to, site_patches, patches_from};
+ghost use Rattle.site_spec.specs.Plans.{Fits, IsInReach};
+ghost use Rattle.new_file_spec.specs.Rewritten.{patch_to, site_patches, patches_for, patches_from};
 ghost use Rattle.site_spec.specs.Sites.{site_at};
 ghost use Rattle.exec_image.specs.Accepted.{AcceptedFacts};
 
 use crate::places::stub_place;
 use elf_spec::Patch;
 use exec_image::Image;
-use plan_core::PlanLine;
+use new_file_laws::fitting_plans_have_few_sites;
+use plan_core::{Plan, PlanLine};
 use rv_isa::{Instr, encode};
 use site_spec::Site;
 use site_stubs::far_jump;
@@ -21,7 +22,7 @@ use std::alloc::{AllocError, Global};
 const RA: u8 = 1;
 
 /// Adds the patch of a code word.
-fn push_word(
+pub fn push_word(
     patches: &mut Vec<Patch>,
     image: &Image,
     addr: u32,
@@ -82,12 +83,8 @@ fn push_line(
     Ok(())
 }
 
-/// The patches of all lines.
-pub fn site_patches(
-    alloc: Global,
-    image: &Image,
-    lines: &[PlanLine],
-) -> Result<Vec<Patch>, AllocError>
+/// The patches of some lines.
+fn line_patches(alloc: Global, image: &Image, lines: &[PlanLine]) -> Result<Vec<Patch>, AllocError>
     requires facts { AcceptedFacts image.now }
     requires few { length lines.now ≤ 32 }
     requires reach { (k : ℕ) → IsInReach image.now (slice_get lines.now k) k }
@@ -98,4 +95,14 @@ pub fn site_patches(
         push_line(&mut patches, image, *line, number)?;
     }
     Ok(patches)
+}
+
+/// The patches of the chosen sites.
+pub fn site_patches(alloc: Global, image: &Image, plan: &Plan) -> Result<Vec<Patch>, AllocError>
+    requires facts { AcceptedFacts image.now }
+    requires fits { Fits image.now plan.now }
+    ensures { IfOk result (λ patches. patches.items ≡ patches_for image.now plan.now) }
+{
+    fitting_plans_have_few_sites();
+    line_patches(alloc, image, plan.sites.as_slice())
 }

@@ -4,8 +4,7 @@ use exec_image::{FileRefusal, PlanFault};
 use thiserror::Error;
 
 /// Why a file isn't rewritten by a plan: the first check that the file fails, else the first that the
-/// plan fails, else the lowest code word that isn't rewritten yet; or want of memory. `File` never
-/// carries a want of memory.
+/// plan fails; or want of memory. `File` never carries a want of memory.
 #[derive(Clone, Copy, Debug, PartialEq, Eq, Error)]
 pub enum RewriteRefusal {
     /// The file isn't accepted.
@@ -14,9 +13,6 @@ pub enum RewriteRefusal {
     /// The plan doesn't fit the file.
     #[error("plan: {0}")]
     Plan(PlanFault),
-    /// The code word at this address is a heap function's.
-    #[error("file: not yet at {0:08x}")]
-    NotYet(u32),
     /// There is no memory for the new file.
     #[error("out of memory")]
     Memory,

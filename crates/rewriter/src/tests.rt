@@ -215,21 +215,62 @@ fn plans_that_do_not_fit_are_refused(rt: HostRuntime) -> Result<(), Fail> {
     Ok(())
 }
 
-#[test]
-fn the_lowest_word_that_is_left_is_named(rt: HostRuntime) -> Result<(), Fail> {
-    let alloc = rt.alloc();
-    let small = small_file(alloc)?;
-    check_refusal(&rt, alloc, &small, EMPTY, "file: not yet at 0001010c")?;
-    let malloc = malloc_file(alloc)?;
-    check_refusal(&rt, alloc, &malloc, EMPTY, "file: not yet at 00010118")?;
-    let blocks = blocks_file(alloc)?;
-    check_refusal(&rt, alloc, &blocks, EMPTY, "file: not yet at 00010120")
+/// The tables of an area of one chunk of 4 granules and a fallback of 4.
+const TABLES: [u32; 38] = [
+    0, 0, 0, 0, 0, 0, 0, 0, 0, 0, 0, 0, 0, 0, 0, 0, NONE, NONE, NONE, NONE, NONE, NONE, NONE, NONE,
+    NONE, NONE, NONE, NONE, NONE, NONE, NONE, NONE, NONE, 0, 0, 0, 4, NONE,
+];
+
+const NONE: u32 = 0xffff_ffff;
+
+/// The word at an offset of a file.
+fn word_at(file: &[u8], at: usize) -> u32 {
+    match file.get(at..).unwrap_or(&[]) {
+        [a, b, c, d, ..] => u32::from_le_bytes([*a, *b, *c, *d]),
+        _ => 0,
+    }
+}
+
+/// Checks the segment of data of a new file with one old header, by its sizes in the file and in memory,
+/// and gives its place.
+fn check_data(rt: &impl Abort, new: &[u8], size: u32, memory: u32) -> usize {
+    let table = word_at(new, 28) as usize;
+    assert_eq!(rt; word_at(new, 44) % 65536, 3);
+    assert!(rt; has_words(new, table + 40, &[0x11000, 0x11000]));
+    assert!(rt; has_words(new, table + 72, &[0x16000, 0x16000, size, memory, 6, 4096]));
+    let place = word_at(new, table + 68);
+    assert_eq!(rt; new.len(), place as usize + size as usize);
+    place as usize
 }
 
 #[test]
-fn the_file_is_judged_before_the_plan_and_the_plan_before_its_words(
-    rt: HostRuntime,
-) -> Result<(), Fail> {
+fn a_heap_function_goes_to_its_words(rt: HostRuntime) -> Result<(), Fail> {
+    let file = malloc_file(rt.alloc())?;
+    let plan = b"halo-plan 1\narea 1 2 4\nsite 0 00010104\nrow 0 00000001\nend\n";
+    let new = new_file(&rt, rt.alloc(), &file, plan)?;
+    assert!(rt; has_words(&new, 260, &[0x00001097, 0xf0c08067]));
+    assert_eq!(rt; word_at(&new, 280), 0x00001297);
+    assert_eq!(rt; word_at(&new, 284) % 0x100000, 0x28067);
+    assert!(rt; has_words(&new, 4152, &[0x0d808067, 0, 0]));
+    assert_eq!(rt; word_at(&new, 4096 + 0x5fc), 0);
+    assert!(rt; word_at(&new, 4096 + 0x600) != 0);
+    let tables = check_data(&rt, &new, 152, 336);
+    assert!(rt; has_words(&new, tables, &TABLES));
+    Ok(())
+}
+
+#[test]
+fn a_heap_may_have_no_room(rt: HostRuntime) -> Result<(), Fail> {
+    for file in [small_file(rt.alloc())?, blocks_file(rt.alloc())?] {
+        let new = new_file(&rt, rt.alloc(), &file, EMPTY)?;
+        let tables = check_data(&rt, &new, 128, 128);
+        assert_eq!(rt; word_at(&new, tables), NONE);
+    }
+    Ok(())
+}
+
+#[test]
+fn the_file_is_judged_before_the_plan(rt: HostRuntime) -> Result<(), Fail> {
     let alloc = rt.alloc();
     let plan = b"halo-plan 1\narea 0 0 0\nsite 0 00010108\nend\n";
     let mut file = put_file(alloc)?;

@@ -1,8 +1,9 @@
-// The new text: the mark, and a stub for each chosen site.
+// The new text: the mark, a stub for each chosen site, and the heap's words.
 ghost use Rattle.std.specs.Prelude.{◌≡◌, ◌+◌, ◌*◌, ◌<◌, ◌≤◌, ◌++◌, length, flat_map, All, IfOk, OnOk};
 ghost use Rattle.elf_spec.specs.Fields.{word_bytes};
 ghost use Rattle.site_spec.specs.Places.{text_at, stub_at};
-ghost use Rattle.new_file_spec.specs.Rewritten.{mark, site_stub, stubs_from, text_segment};
+ghost use Rattle.site_spec.specs.Plans.{Fits};
+ghost use Rattle.new_file_spec.specs.Rewritten.{heap_text, mark, site_stub, stubs_from, text_for, text_segment};
 ghost use Rattle.site_spec.specs.Sites.{site_at};
 ghost use Rattle.exec_image.specs.Accepted.{AcceptedFacts};
 
@@ -11,12 +12,16 @@ use bitflags::Flags;
 use elf_read::SegmentFlags;
 use elf_spec::{ByteList, NewSegment};
 use exec_image::Image;
-use plan_core::PlanLine;
+use new_file_laws::fitting_plans_have_few_sites;
+use plan_core::{Plan, PlanLine};
 use site_stubs::stub;
 use std::alloc::{AllocError, Global};
 
 /// What a new text begins with.
 const MARK: &[u8] = b"HALO-LAYOUT-RV1\n";
+
+/// Where the heap's words stand in it.
+const WORDS_AT: usize = 0x600;
 
 /// Adds the four bytes of a word.
 #[tactic(auto, unfolding(elf_spec::specs::Fields::word_bytes))]
@@ -61,8 +66,8 @@ fn push_stub(
     Ok(())
 }
 
-/// The bytes of the new text.
-fn text_bytes(alloc: Global, image: &Image, lines: &[PlanLine]) -> Result<Vec<u8>, AllocError>
+/// The mark and the stubs of some lines.
+fn line_bytes(alloc: Global, image: &Image, lines: &[PlanLine]) -> Result<Vec<u8>, AllocError>
     requires facts { AcceptedFacts image.now }
     requires few { length lines.now ≤ 32 }
     requires bits { All (λ line. line.bit < 32) lines.now }
@@ -77,6 +82,17 @@ fn text_bytes(alloc: Global, image: &Image, lines: &[PlanLine]) -> Result<Vec<u8
     Ok(text)
 }
 
+/// The mark and the stubs of a plan.
+fn text_bytes(alloc: Global, image: &Image, plan: &Plan) -> Result<Vec<u8>, AllocError>
+    requires facts { AcceptedFacts image.now }
+    requires fits { Fits image.now plan.now }
+    ensures is { IfOk result (λ text. text.items ≡ text_for image.now plan.now) }
+    ensures short { IfOk result (λ text. length text.items ≤ 1424) }
+{
+    fitting_plans_have_few_sites();
+    line_bytes(alloc, image, plan.sites.as_slice())
+}
+
 /// The flags of a segment of code.
 fn code_flags() -> u32
     ensures { result ≡ 5 }
@@ -84,23 +100,44 @@ fn code_flags() -> u32
     SegmentFlags::READ.union(SegmentFlags::EXECUTE).bits()
 }
 
-/// The segment of the new text.
-pub fn text_segment(
-    alloc: Global,
-    image: &Image,
-    lines: &[PlanLine],
-) -> Result<NewSegment, AllocError>
-    requires facts { AcceptedFacts image.now }
-    requires few { length lines.now ≤ 32 }
-    requires bits { All (λ line. line.bit < 32) lines.now }
-    ensures { IfOk result (λ segment. segment ≡ text_segment (text_at image.now)
-        (mark ++ stubs_from image.now 0 lines.now)) }
+/// The segment of a new text.
+fn segment_of(image: &Image, text: Vec<u8>) -> NewSegment
+    requires { length text.items ≤ 65536 }
+    ensures { result ≡ text_segment (text_at image.now) text.items }
 {
-    let text = text_bytes(alloc, image, lines)?;
-    Ok(NewSegment {
+    NewSegment {
         vaddr: image.text_at(),
         flags: code_flags(),
         mem_size: text.len() as u32,
         bytes: ByteList::from(text),
-    })
+    }
+}
+
+/// The segment of the new text without heap functions.
+pub fn site_segment(alloc: Global, image: &Image, plan: &Plan) -> Result<NewSegment, AllocError>
+    requires facts { AcceptedFacts image.now }
+    requires fits { Fits image.now plan.now }
+    ensures { IfOk result (λ segment. segment ≡ text_segment (text_at image.now) (text_for image.now plan.now)) }
+{
+    let text = text_bytes(alloc, image, plan)?;
+    Ok(segment_of(image, text))
+}
+
+/// The segment of the new text with the heap's words.
+pub fn heap_segment(
+    alloc: Global,
+    image: &Image,
+    plan: &Plan,
+    words: &[u32],
+) -> Result<NewSegment, AllocError>
+    requires facts { AcceptedFacts image.now }
+    requires fits { Fits image.now plan.now }
+    requires few { length words.now ≤ 4096 }
+    ensures { IfOk result (λ segment. segment
+        ≡ text_segment (text_at image.now) (heap_text image.now plan.now words.now)) }
+{
+    let mut text = text_bytes(alloc, image, plan)?;
+    text.resize(WORDS_AT, 0)?;
+    push_words(&mut text, words)?;
+    Ok(segment_of(image, text))
 }

@@ -1,7 +1,7 @@
 -- The patches so far, and those of the lines that are left, are all.
 use Rattle.std.proofs.Common.{◌≡◌, ◌++◌, drop}
 use Rattle.new_file_spec.specs.Rewritten.{patches_from}
-use Rattle.rewriter.proofs.patches.site_patches.Given as goal
+use Rattle.rewriter.proofs.patches.line_patches.Given as goal
 
 abbrev pub invariant-loop-number : goal.invariant-loop-number
 invariant-loop-number l = record {

@@ -1,7 +1,7 @@
 -- The text so far, and the stubs of the lines that are left, are all.
 use Rattle.std.proofs.Common.{◌≡◌, ◌+◌, ◌*◌, ◌≤◌, ◌++◌, drop, length}
 use Rattle.new_file_spec.specs.Rewritten.{mark, stubs_from}
-use Rattle.rewriter.proofs.text.text_bytes.Given as goal
+use Rattle.rewriter.proofs.text.line_bytes.Given as goal
 
 abbrev pub invariant-loop-number : goal.invariant-loop-number
 invariant-loop-number l = record {
