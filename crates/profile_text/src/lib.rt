@@ -3,6 +3,7 @@
 
 mod distinct;
 mod lines;
+mod one_answer;
 mod reader;
 mod refusals;
 mod steps;
@@ -10,6 +11,7 @@ mod steps;
 mod tests;
 mod writer;
 
+pub use one_answer::a_profile_text_has_one_answer;
 pub use reader::read_profile;
 pub use refusals::ProfileRefusal;
 pub use writer::write_profile;
