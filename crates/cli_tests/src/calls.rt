@@ -1,4 +1,7 @@
 // A call of the program on a line of words, and what it answers.
+ghost use Rattle.group_policy.specs.Cuts.{InRange, IsFair};
+
+use group_policy::{Cut, Policy, density};
 use halo_cli::halo;
 use halo_outside::{MemFiles, MemSink, MemSource, Named};
 use std::alloc::{AllocError, Global};
@@ -40,10 +43,10 @@ pub fn files(
 
 /// A sink that takes at most so many bytes in one write. The writes of these numbers fail.
 pub fn sink(alloc: Global, most: usize, failing: &[u64]) -> Result<MemSink, AllocError> {
-    MemSink::new(alloc, 8192, most, Vec::from_slice(alloc, failing)?)
+    MemSink::new(alloc, 65536, most, Vec::from_slice(alloc, failing)?)
 }
 
-/// The answer to a line of words over these files, this input and these sinks.
+/// The answer to a line of words over these files, this input and these sinks. The one policy is density.
 pub fn call_over(
     alloc: Global,
     words: &[&str],
@@ -57,7 +60,25 @@ pub fn call_over(
     let mut input = MemSource::new(Vec::from_slice(alloc, input)?, 2, Vec::new(alloc));
     let mut out = out;
     let mut note = note;
-    let status = halo(alloc, &words, &mut files, &mut input, &mut out, &mut note);
+    let policy = Policy::keep(
+        String::from_str(alloc, "density")?,
+        Box::new(
+            alloc,
+            |cut: Cut|
+                requires { InRange cut }
+                ensures { IsFair cut result }
+            { density(cut) },
+        )?,
+    );
+    let status = halo(
+        alloc,
+        &words,
+        &mut files,
+        &mut input,
+        &mut out,
+        &mut note,
+        &[policy],
+    );
     Ok(Answer { status, out, note })
 }
 

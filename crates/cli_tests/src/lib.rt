@@ -6,6 +6,10 @@ mod calls;
 #[cfg(test)]
 mod failing;
 #[cfg(test)]
+mod generating;
+#[cfg(test)]
+mod planning;
+#[cfg(test)]
 mod programs;
 #[cfg(test)]
 mod rewriting;

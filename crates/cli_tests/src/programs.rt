@@ -41,10 +41,13 @@ const TAKES: [u32; 8] = [
     0x0010_0073,
 ];
 
-/// Two plans: the empty one, and one with the bit 0 for the call at 0x10100.
+/// Three plans: the empty one, one with the bit 0 for the call at 0x10100, and one with this bit for the
+/// call at 0x10104 and a group of blocks that are taken while it is set.
 pub const EMPTY: &[u8] = b"halo-plan 1\narea 0 0 0\nend\n";
 
 pub const ONE_SITE: &[u8] = b"halo-plan 1\narea 0 0 0\nsite 0 00010100\nend\n";
+
+pub const ONE_GROUP: &[u8] = b"halo-plan 1\narea 1 2 4\nsite 0 00010104\nrow 0 00000001\nend\n";
 
 // A builder that has these words.
 fn begin(alloc: Global, code: &[u32]) -> Result<Builder, AllocError>

@@ -1,6 +1,6 @@
 // `rewrite`: new files, and files and plans that are refused.
 use crate::calls::{call, is_done, is_refused};
-use crate::programs::{EMPTY, EXITS, ONE_SITE, changed, file_of, puts, takes};
+use crate::programs::{EMPTY, EXITS, ONE_GROUP, ONE_SITE, changed, file_of, puts, takes};
 use std::test::Fail;
 
 const REWRITE: &[&str] = &["rewrite", "plan", "file"];
@@ -11,6 +11,9 @@ const STUB: [u8; 44] = [
     0xe7, 0x80, 0x40, 0x0f, 0x93, 0x00, 0x10, 0x00, 0x93, 0x90, 0x00, 0x00, 0x93, 0xc0, 0xf0, 0xff,
     0x33, 0x72, 0x12, 0x00, 0x97, 0xf0, 0xff, 0xff, 0x67, 0x80, 0x00, 0x0d,
 ];
+
+/// The words with which the pair at 0x10104 goes to its stub.
+const PAIR: [u8; 8] = [0x97, 0x10, 0x00, 0x00, 0x67, 0x80, 0xc0, 0xf0];
 
 #[test]
 fn new_files_are_written_and_run(rt: HostRuntime) -> Result<(), Fail> {
@@ -50,6 +53,22 @@ fn a_chosen_call_goes_to_its_stub(rt: HostRuntime) -> Result<(), Fail> {
         let again = call(rt.alloc(), command, Some(EMPTY), Some(bytes), b"")?;
         assert!(rt; is_refused(&again, 65, "halo: file: already rewritten\n"));
     }
+    Ok(())
+}
+
+#[test]
+fn a_heap_function_goes_to_its_words(rt: HostRuntime) -> Result<(), Fail> {
+    let file = takes(rt.alloc())?;
+    let new = call(rt.alloc(), REWRITE, Some(ONE_GROUP), Some(&file), b"")?;
+    let bytes = new.out.bytes();
+    assert!(rt; is_done(&new, bytes, ""));
+    assert_eq!(rt; bytes.get(260..268), Some(PAIR.as_slice()));
+    let run = call(rt.alloc(), &["run", "file"], None, Some(bytes), b"")?;
+    assert_eq!(rt; run.status, 0);
+    assert!(rt; run.note.bytes().starts_with(b"exit 0 after "));
+    let eight = &["run", "--steps", "8", "file"];
+    let still = call(rt.alloc(), eight, None, Some(bytes), b"")?;
+    assert!(rt; is_refused(&still, 70, "halo: still running after 8 steps\n"));
     Ok(())
 }
 
@@ -101,12 +120,11 @@ fn the_first_refusal_in_order_is_told(rt: HostRuntime) -> Result<(), Fail> {
     let takes = takes(rt.alloc())?;
     let long = vec![in rt.alloc(); 0u8; 1048577]?;
     let misfit = b"halo-plan 1\narea 256 12 1\nend\n";
-    let table: [(&[u8], Option<&[u8]>, u8, &str); 5] = [
+    let table: [(&[u8], Option<&[u8]>, u8, &str); 4] = [
         (&long, None, 66, "halo: plan: too long\n"),
         (b"halo-plan 1\n", Some(EMPTY), 66, "halo: plan: line 2\n"),
         (misfit, Some(EMPTY), 65, "halo: file: not elf\n"),
         (misfit, Some(&takes), 66, "halo: plan: area\n"),
-        (EMPTY, Some(&takes), 65, "halo: file: not yet at 00010118\n"),
     ];
     for (plan, file, status, text) in table {
         let answer = call(rt.alloc(), REWRITE, Some(plan), file, b"")?;

@@ -5,7 +5,7 @@ use std::test::Fail;
 
 #[test]
 fn words_that_are_no_line_are_refused_at_the_first_wrong_one(rt: HostRuntime) -> Result<(), Fail> {
-    let table: [(&[&str], &str); 33] = [
+    let table: [(&[&str], &str); 36] = [
         (&[], "halo: usage: word 0\n"),
         (&["shows"], "halo: usage: word 0\n"),
         (&["show"], "halo: usage: word 1\n"),
@@ -47,6 +47,12 @@ fn words_that_are_no_line_are_refused_at_the_first_wrong_one(rt: HostRuntime) ->
         (&["run", "--steps", "--", "file"], "halo: usage: word 2\n"),
         (&["show", "--steps=3", "file"], "halo: usage: word 1\n"),
         (&["", "plan", "file"], "halo: usage: word 0\n"),
+        (&["plan"], "halo: usage: word 1\n"),
+        (&["plan", "--steps", "3", "file"], "halo: usage: word 1\n"),
+        (
+            &["plan", "--tolerance=151", "file"],
+            "halo: usage: word 1\n",
+        ),
         (&["rewrite"], "halo: usage: word 1\n"),
         (&["rewrite", ""], "halo: usage: word 1\n"),
         (&["rewrite", "-p", "file"], "halo: usage: word 1\n"),

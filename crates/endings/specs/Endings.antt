@@ -1,11 +1,11 @@
 -- The status of an ending, and its line on note.
 use Rattle.std.specs.Prelude.{ℕ, List, [], ◌++◌, codes, decimal}
 use Rattle.endings.specs.declared.endings.Ending.{Ending}
-use Rattle.endings.specs.declared.endings.Ending.TheVariants.{Done, Usage, File, Plan, ReadFault, WriteFault, Memory, Exited, StillRunning, Fault, Illegal}
+use Rattle.endings.specs.declared.endings.Ending.TheVariants.{Done, Usage, File, Plan, Profile, ReadFault, WriteFault, Memory, Exited, StillRunning, Fault, Illegal}
 use Rattle.machine_spec.specs.declared.FaultKind.{FaultKind}
 use Rattle.machine_spec.specs.declared.FaultKind.TheVariants.{F1, F2, F3, F4, F5, F6}
 use Rattle.text_fields.specs.Writing.{hex8}
-use Rattle.endings.specs.Texts.{file_text, plan_text}
+use Rattle.endings.specs.Texts.{file_text, plan_text, profile_fault_text}
 
 -- the status with which the program ends
 abbrev pub status_of : Ending → ℕ
@@ -14,6 +14,7 @@ status_of (Exited status steps) = 0
 status_of (Usage place) = 64
 status_of (File why) = 65
 status_of (Plan why) = 66
+status_of (Profile why) = 66
 status_of ReadFault = 67
 status_of WriteFault = 68
 status_of Memory = 69
@@ -36,6 +37,7 @@ line_of (Exited status steps) = codes "exit " ++ decimal status ++ codes " after
 line_of (Usage place) = codes "halo: usage: word " ++ decimal place ++ codes "\n"
 line_of (File why) = codes "halo: file: " ++ file_text why ++ codes "\n"
 line_of (Plan why) = codes "halo: plan: " ++ plan_text why ++ codes "\n"
+line_of (Profile why) = codes "halo: profile: " ++ profile_fault_text why ++ codes "\n"
 line_of ReadFault = codes "halo: read failed\n"
 line_of WriteFault = codes "halo: write failed\n"
 line_of Memory = codes "halo: out of memory\n"

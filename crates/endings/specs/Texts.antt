@@ -1,4 +1,4 @@
--- The texts of refusals of files and plans. No ending carries a want of memory inside a refusal.
+-- The texts of refusals of files, plans and profiles. No ending carries a want of memory inside a refusal.
 use Rattle.std.specs.Prelude.{ℕ, List, ◌++◌, codes, decimal}
 use Rattle.text_fields.specs.Writing.{hex8}
 use Rattle.elf_spec.specs.Heap.{heap_name}
@@ -16,10 +16,14 @@ use Rattle.exec_image.specs.declared.plan_fault.PlanFault.{PlanFault}
 use Rattle.exec_image.specs.declared.plan_fault.PlanFault.TheVariants as fault
 use Rattle.plan_core.specs.declared.refusals.PlanRefusal.{PlanRefusal}
 use Rattle.plan_core.specs.declared.refusals.PlanRefusal.TheVariants as plan
+use Rattle.profile_text.specs.declared.refusals.ProfileRefusal.{ProfileRefusal}
+use Rattle.profile_text.specs.declared.refusals.ProfileRefusal.TheVariants as profile
 use Rattle.endings.specs.declared.endings.BadFile.{BadFile}
 use Rattle.endings.specs.declared.endings.BadFile.TheVariants as bad_file
 use Rattle.endings.specs.declared.endings.BadPlan.{BadPlan}
 use Rattle.endings.specs.declared.endings.BadPlan.TheVariants as bad_plan
+use Rattle.endings.specs.declared.endings.BadProfile.{BadProfile}
+use Rattle.endings.specs.declared.endings.BadProfile.TheVariants as bad_profile
 
 -- the headers, sections and symbols of a file
 abbrev pub table_text : Table → List ℕ
@@ -75,7 +79,6 @@ refusal_text file.Memory = codes "out of memory"
 abbrev pub file_text : BadFile → List ℕ
 file_text bad_file.TooLong = codes "too long"
 file_text (bad_file.Refused why) = refusal_text why
-file_text (bad_file.NotYet a) = codes "not yet at " ++ hex8 a
 
 -- a plan's text, and a plan for a file
 abbrev pub grammar_text : PlanRefusal → List ℕ
@@ -94,3 +97,12 @@ abbrev pub plan_text : BadPlan → List ℕ
 plan_text bad_plan.TooLong = codes "too long"
 plan_text (bad_plan.Text why) = grammar_text why
 plan_text (bad_plan.Misfit why) = fault_text why
+
+-- a profile's text
+abbrev pub profile_line_text : ProfileRefusal → List ℕ
+profile_line_text (profile.Line n) = codes "line " ++ decimal n
+profile_line_text profile.Memory = codes "out of memory"
+
+abbrev pub profile_fault_text : BadProfile → List ℕ
+profile_fault_text bad_profile.TooLong = codes "too long"
+profile_fault_text (bad_profile.Text why) = profile_line_text why

@@ -3,6 +3,7 @@
 use exec_image::{FileRefusal, PlanFault};
 use machine_spec::FaultKind;
 use plan_core::PlanRefusal;
+use profile_text::ProfileRefusal;
 use thiserror::Error;
 
 /// What is wrong with a file.
@@ -14,9 +15,6 @@ pub enum BadFile {
     /// It isn't an executable that is accepted; where it is run, it isn't readable (`FileRefusal::Elf`).
     #[error("{0}")]
     Refused(FileRefusal),
-    /// The code word at this address isn't rewritten yet.
-    #[error("not yet at {0:08x}")]
-    NotYet(u32),
 }
 
 /// What is wrong with a plan.
@@ -31,6 +29,17 @@ pub enum BadPlan {
     /// It doesn't fit the file.
     #[error("{0}")]
     Misfit(PlanFault),
+}
+
+/// What is wrong with a profile.
+#[derive(Clone, Copy, Debug, PartialEq, Eq, Error)]
+pub enum BadProfile {
+    /// Its text is longer than 33554432 bytes.
+    #[error("too long")]
+    TooLong,
+    /// Its text isn't one that is taken.
+    #[error("{0}")]
+    Text(ProfileRefusal),
 }
 
 /// How a command ends.
@@ -50,6 +59,8 @@ pub enum Ending {
     File(BadFile),
     /// The plan was refused.
     Plan(BadPlan),
+    /// The profile was refused.
+    Profile(BadProfile),
     /// A file or the input couldn't be read.
     ReadFault,
     /// The output or the note couldn't be written.

@@ -18,7 +18,6 @@ pub fn file_line(why: BadFile) -> Line
     match why {
         BadFile::TooLong => text_line("halo: file: ", "too long"),
         BadFile::Refused(why) => refusal_line(why),
-        BadFile::NotYet(at) => address_line("halo: file: not yet at ", at, "\n"),
     }
 }
 

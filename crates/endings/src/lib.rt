@@ -6,9 +6,10 @@ mod file_lines;
 mod lines;
 mod parts;
 mod plan_lines;
+mod profile_lines;
 mod run_lines;
 
-pub use endings::{BadFile, BadPlan, Ending};
+pub use endings::{BadFile, BadPlan, BadProfile, Ending};
 pub use lines::{line, status};
 pub use parts::Line;
 

@@ -6,6 +6,7 @@ use crate::endings::Ending;
 use crate::file_lines::file_line;
 use crate::parts::{Line, number_line, text_line};
 use crate::plan_lines::plan_line;
+use crate::profile_lines::profile_line;
 use crate::run_lines::{exit_line, fault_line, stop_line};
 
 /// The status with which the program ends after an ending: 0, or 64 to 72. A failed write to note comes
@@ -17,7 +18,7 @@ pub fn status(ending: Ending) -> u8
         Ending::Done | Ending::Exited { .. } => 0,
         Ending::Usage(_) => 64,
         Ending::File(_) => 65,
-        Ending::Plan(_) => 66,
+        Ending::Plan(_) | Ending::Profile(_) => 66,
         Ending::ReadFault => 67,
         Ending::WriteFault => 68,
         Ending::Memory => 69,
@@ -38,6 +39,7 @@ pub fn line(ending: Ending) -> Line
         Ending::Usage(place) => number_line("halo: usage: word ", place, "\n"),
         Ending::File(why) => file_line(why),
         Ending::Plan(why) => plan_line(why),
+        Ending::Profile(why) => profile_line(why),
         Ending::ReadFault => text_line("halo: ", "read failed"),
         Ending::WriteFault => text_line("halo: ", "write failed"),
         Ending::Memory => text_line("halo: ", "out of memory"),

@@ -195,12 +195,6 @@ fn each_refusal_of_an_image_has_its_line(rt: HostRuntime) -> Result<(), Fail> {
         65,
         "halo: file: too long\n",
     );
-    check(
-        &rt,
-        Ending::File(BadFile::NotYet(0x10120)),
-        65,
-        "halo: file: not yet at 00010120\n",
-    );
     Ok(())
 }
 

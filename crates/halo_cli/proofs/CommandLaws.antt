@@ -1,12 +1,12 @@
 -- What holds of every command: it comes to one ending, and does what the table of statuses says.
-use Rattle.std.proofs.Common.{◌≡◌, ◌≤◌, ◌⊎◌, inl, inr, ℕ, List, Some, refl, sym, ap, arith}
+use Rattle.std.proofs.Common.{◌≡◌, ◌≤◌, ◌⊎◌, inl, inr, ℕ, List, refl, sym, ap, arith}
 use Rattle.halo_outside.specs.Seen.{Contents, FilesSeen}
 use Rattle.endings.specs.declared.endings.Ending.{Ending}
-use Rattle.endings.specs.declared.endings.Ending.TheVariants.{Done, File, Plan, ReadFault, Memory, Exited}
+use Rattle.endings.specs.declared.endings.Ending.TheVariants.{Done, File, Plan, Profile, ReadFault, Memory, Exited}
 use Rattle.endings.specs.Endings.{status_of}
 use Rattle.halo_words.specs.Grammar.{Given}
 use Rattle.halo_cli.specs.World.{Outside, World}
-use Rattle.halo_cli.specs.Reads.{FileRead}
+use Rattle.halo_cli.specs.Reads.{FileRead, AreTold}
 use Rattle.halo_cli.specs.Writing.{IsStop, IsUnmoved, NotesLine, WritesOnce, IsWritten}
 use Rattle.halo_cli.specs.Entry.{Entry, text_entry}
 
@@ -21,15 +21,15 @@ IsSilent ending = (status_of ending ≡ 65) ⊎ (status_of ending ≡ 66) ⊎ (s
 pub record Laws (entry : Entry) : Type 0 where
   -- what was read of what is told brings it to the ending to which that brings it
   pub due : (given : Given) (contents : Contents) (before now : Outside) (due brought : Ending)
-      → before.files.told ≡ Some contents
+      → AreTold (entry.reads given) before.files contents
       → entry.comes given contents before.input.told due → entry.brings given before now brought → brought ≡ due
   -- where it is started, what is told brings it to no refusal
   pub started : (given : Given) (contents : Contents) (before now : Outside) (due : Ending)
-      → before.files.told ≡ Some contents
+      → AreTold (entry.reads given) before.files contents
       → entry.comes given contents before.input.told due → entry.started given before now → MayWrite due
   -- only told files lack one that is due to be read
   pub lacking : (given : Given) (before now : Outside) → entry.brings given before now ReadFault
-      → (contents : Contents) × (before.files.told ≡ Some contents)
+      → (contents : Contents) × AreTold (entry.reads given) before.files contents
       × entry.comes given contents before.input.told ReadFault
   -- at status 0 it is done
   pub done : (given : Given) (before now : World) (ending : Ending) → status_of ending ≡ 0 → NotesLine before now ending
@@ -42,6 +42,7 @@ pub record Laws (entry : Entry) : Type 0 where
 not_written : (ending : Ending) → IsSilent ending → IsStop ending
 not_written (File why) one = (λ e. cc, λ e. cc)
 not_written (Plan why) one = (λ e. cc, λ e. cc)
+not_written (Profile why) one = (λ e. cc, λ e. cc)
 not_written Memory one = (λ e. cc, λ e. cc)
 not_written ending (inl is) = absurd (omega arith)
 not_written ending (inr (inl is)) = absurd (omega arith)
@@ -54,9 +55,9 @@ module _ (word : List ℕ) (reads : Given → List FileRead) (Comes : Given → 
     (once : (given : Given) (contents : Contents) (a b : Ending) → Comes given contents a → Comes given contents b
     → a ≡ b)
     (told : (given : Given) (contents : Contents) (before now : FilesSeen) (ending : Ending)
-    → before.told ≡ Some contents → Brings given before now ending → Comes given contents ending)
+    → AreTold (reads given) before contents → Brings given before now ending → Comes given contents ending)
     (lacks : (given : Given) (before now : FilesSeen) → Brings given before now ReadFault
-    → (contents : Contents) × (before.told ≡ Some contents) × Comes given contents ReadFault)
+    → (contents : Contents) × AreTold (reads given) before contents × Comes given contents ReadFault)
     (exits : (given : Given) (before now : FilesSeen) (exit steps : ℕ) → Brings given before now (Exited exit steps)
     → ⊥) where
   text_done : (given : Given) (before now : World) (ending : Ending) → status_of ending ≡ 0

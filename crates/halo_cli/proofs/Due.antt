@@ -10,16 +10,21 @@ use Rattle.halo_cli.specs.Entry.{Entry}
 use Rattle.halo_cli.specs.Rewrite.{rewrite_entry}
 use Rattle.halo_cli.specs.Run.{run_entry}
 use Rattle.halo_cli.specs.Show.{show_entry}
-use Rattle.halo_cli.specs.Commands.{entries, no_entry, entry_if, entry_named, entry_of}
+use Rattle.halo_cli.specs.Generate.{gen_entry}
+use Rattle.halo_cli.specs.Options.{Policies}
+use Rattle.halo_cli.specs.Plan.{plan_entry}
+use Rattle.halo_cli.specs.Commands.{entries, all_entries, no_entry, entry_if, entry_named, entry_in}
 use Rattle.halo_words.specs.declared.values.Stop.{Stop}
 use Rattle.halo_words.specs.declared.values.Stop.TheVariants as stop
 use Rattle.halo_words.specs.Stops.{StopsFor}
 use Rattle.halo_cli.specs.Stops.{stop_ending}
-use Rattle.halo_cli.specs.Ends.{Ends, LineEnds}
+use Rattle.halo_cli.specs.Ends.{EndsOf, LineEnds}
 use Rattle.halo_cli.proofs.CommandLaws.{Laws}
 use Rattle.halo_cli.proofs.RewriteDue.{TextsOnce, rewrite_laws}
 use Rattle.halo_cli.proofs.RunDue.{run_laws}
 use Rattle.halo_cli.proofs.ShowDue.{show_laws}
+use Rattle.halo_cli.proofs.GenDue.{gen_laws}
+use Rattle.halo_cli.proofs.PlanDue.{ProfilesOnce, plan_laws}
 
 no_laws : Laws no_entry
 no_laws = record {
@@ -36,13 +41,17 @@ laws_if false entry other laws others = others
 
 pub laws_named : TextsOnce → (word : List ℕ) → Laws (entry_named entries word)
 laws_named once word =
-    laws_if (bytes_eq rewrite_entry.word word) rewrite_entry (entry_named (run_entry ∷ show_entry ∷ []) word)
+    laws_if (bytes_eq rewrite_entry.word word) rewrite_entry
+    (entry_named (run_entry ∷ show_entry ∷ gen_entry ∷ []) word)
     (rewrite_laws once)
-    (laws_if (bytes_eq run_entry.word word) run_entry (entry_named (show_entry ∷ []) word) run_laws
-    (laws_if (bytes_eq show_entry.word word) show_entry no_entry show_laws no_laws))
+    (laws_if (bytes_eq run_entry.word word) run_entry (entry_named (show_entry ∷ gen_entry ∷ []) word) run_laws
+    (laws_if (bytes_eq show_entry.word word) show_entry (entry_named (gen_entry ∷ []) word) show_laws
+    (laws_if (bytes_eq gen_entry.word word) gen_entry no_entry gen_laws no_laws)))
 
-pub laws_of : TextsOnce → (asked : Asked) → Laws (entry_of asked)
-laws_of once asked = laws_named once asked.word
+pub laws_of : TextsOnce → ProfilesOnce → (policies : Policies) (asked : Asked) → Laws (entry_in policies asked)
+laws_of texts profiles policies asked =
+    laws_if (bytes_eq (plan_entry policies).word asked.word) (plan_entry policies) (entry_named entries asked.word)
+    (plan_laws profiles policies) (laws_named texts asked.word)
 
 pub unmoved_by : (before : Outside) → OnlyMoves before before
 unmoved_by before = record {
@@ -52,10 +61,10 @@ unmoved_by before = record {
 }
 
 -- a line that stopped before its command
-pub stop_ends : (words : List (List ℕ)) (why : Stop) (before : Outside) → StopsFor words why
-    → LineEnds words before before (stop_ending why)
-stop_ends words (stop.Usage place) before wrong = inl (place, refl, wrong, refl)
-stop_ends words stop.Memory before line = inr (inl (refl, line, refl))
+pub stop_ends : (policies : Policies) (words : List (List ℕ)) (why : Stop) (before : Outside) → StopsFor words why
+    → LineEnds policies words before before (stop_ending why)
+stop_ends policies words (stop.Usage place) before wrong = inl (place, refl, inl wrong, refl)
+stop_ends policies words stop.Memory before line = inr (inl (refl, line, refl))
 
 -- the word is that of one of the commands
 abbrev IsWordOf : List Shape → List ℕ → Type 0
@@ -74,13 +83,14 @@ among (first ∷ rest) word shape found = by (bytes_eq first.word word) refl (am
     by false test later = inr (later (rw test at found))
 
 pub is_command : (words : List (List ℕ)) (asked : Asked) → AsksFor the_table words asked
-    → (asked.word ≡ codes "rewrite") ⊎ (asked.word ≡ codes "run") ⊎ (asked.word ≡ codes "show") ⊎ ⊥
+    → (asked.word ≡ codes "rewrite") ⊎ (asked.word ≡ codes "run") ⊎ (asked.word ≡ codes "plan")
+    ⊎ (asked.word ≡ codes "show") ⊎ (asked.word ≡ codes "gen") ⊎ ⊥
 unfolding the_table
 is_command words asked asks = among the_table asked.word asks.shape asks.command
 
--- a line whose word is this
-pub at_word : (asked : Asked) (word : List ℕ) (before now : Outside) (ending : Ending) → asked.word ≡ word
-    → Ends (record { word = word; given = asked.given }) before now ending → Ends asked before now ending
-at_word asked word before now ending is ends =
-    subst (λ w. (let line : Asked = record { word = w; given = asked.given } in Ends line before now ending))
-    (sym is) ends
+-- the command of a line whose word is this
+pub at_word : (policies : Policies) (asked : Asked) (word : List ℕ) (before now : Outside) (ending : Ending)
+    → asked.word ≡ word → EndsOf (entry_named (all_entries policies) word) asked.given before now ending
+    → EndsOf (entry_in policies asked) asked.given before now ending
+at_word policies asked word before now ending is ends =
+    subst (λ w. EndsOf (entry_named (all_entries policies) w) asked.given before now ending) (sym is) ends

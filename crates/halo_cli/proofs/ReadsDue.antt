@@ -5,9 +5,9 @@ use Rattle.std.specs.Bool.{MatchBool}
 use Rattle.std.proofs.lemmas.Bool.Decides.{nat_tests}
 use Rattle.halo_outside.specs.Seen.{Contents, contents_of, FilesSeen, Lacks, IsTooLong}
 use Rattle.endings.specs.declared.endings.Ending.{Ending}
-use Rattle.endings.specs.declared.endings.Ending.TheVariants.{Done, Exited, Usage, File, Plan, ReadFault, WriteFault, Memory, StillRunning, Fault, Illegal}
+use Rattle.endings.specs.declared.endings.Ending.TheVariants.{Done, Exited, Usage, File, Plan, Profile, ReadFault, WriteFault, Memory, StillRunning, Fault, Illegal}
 use Rattle.endings.specs.declared.endings.BadFile.TheVariants.{TooLong}
-use Rattle.halo_cli.specs.Reads.{FileComes, IsNoFile, HasReadCause}
+use Rattle.halo_cli.specs.Reads.{OperandComes, FileComes, IsNotRead, IsNoFile, HasReadCause}
 
 -- a limit is passed or not
 pub limit_once : (test : Bool) (refused : Ending) (Comes : Ending → Type 0)
@@ -31,6 +31,7 @@ abbrev pub IsDecided : Ending → Type 0
 IsDecided Done = Unit {0}
 IsDecided (File why) = Unit {0}
 IsDecided (Plan why) = Unit {0}
+IsDecided (Profile why) = Unit {0}
 IsDecided Memory = Unit {0}
 IsDecided ending = ⊥
 
@@ -58,71 +59,89 @@ has_cause Brings before now (Exited exit steps) (inl brings) = brings
 has_cause Brings before now (Usage place) (inl brings) = brings
 has_cause Brings before now (File why) (inl brings) = brings
 has_cause Brings before now (Plan why) (inl brings) = brings
+has_cause Brings before now (Profile why) (inl brings) = brings
 has_cause Brings before now WriteFault (inl brings) = brings
 has_cause Brings before now (StillRunning steps) (inl brings) = brings
 has_cause Brings before now (Fault kind at steps) (inl brings) = brings
 has_cause Brings before now (Illegal at steps) (inl brings) = brings
 
-module _ (limit : ℕ) (Decide : List ℕ → Ending → Type 0) where
+-- one more operand of told contents, and the ending where it is longer than its limit
+module _ (limit : ℕ) (long : Ending) (Decide : List ℕ → Ending → Type 0) where
   -- told contents have one ending
+  pub operand_once : ((bytes : List ℕ) (a b : Ending) → Decide bytes a → Decide bytes b → a ≡ b)
+      → (found : Option (List ℕ)) (a b : Ending) → OperandComes limit long found Decide a
+      → OperandComes limit long found Decide b → a ≡ b
+  operand_once once None a b at_a at_b = at_a ∙ sym at_b
+  operand_once once (Some bytes) a b at_a at_b =
+      limit_once (nat_lt limit (length bytes)) long (Decide bytes) (once bytes) a b at_a at_b
+
+  -- a told operand that was read is the one that decides
+  pub told_operand : (contents : Contents) (name bytes : List ℕ) (ending : Ending)
+      → contents_of contents name ≡ Some bytes → length bytes ≤ limit → Decide bytes ending
+      → OperandComes limit long (contents_of contents name) Decide ending
+  told_operand contents name bytes ending is fits decides =
+      subst (λ (found : Option (List ℕ)). OperandComes limit long found Decide ending) (sym is)
+      (within limit (length bytes) (ending ≡ long) (Decide bytes ending) fits decides)
+
+  pub of_told_operand : (contents : Contents) (name bytes : List ℕ) (ending : Ending)
+      → contents_of contents name ≡ Some bytes → length bytes ≤ limit
+      → OperandComes limit long (contents_of contents name) Decide ending → Decide bytes ending
+  of_told_operand contents name bytes ending is fits comes =
+      of_within limit (length bytes) (ending ≡ long) (Decide bytes ending) fits
+      (subst (λ (found : Option (List ℕ)). OperandComes limit long found Decide ending) is comes)
+
+  lacking_comes : (contents : Contents) (name : List ℕ) → contents_of contents name ≡ None
+      → OperandComes limit long (contents_of contents name) Decide ReadFault
+  lacking_comes contents name is =
+      subst (λ (found : Option (List ℕ)). OperandComes limit long found Decide ReadFault) (sym is) refl
+
+  long_comes : (found : Option (List ℕ)) → IsSomeAnd found (λ bytes. limit < length bytes)
+      → OperandComes limit long found Decide long
+  long_comes None is_long = absurd is_long
+  long_comes (Some bytes) is_long =
+      let test : nat_lt limit (length bytes) ≡ true = grind (arith, nat_tests) in
+      subst (λ (b : Bool). MatchBool b (long ≡ long) (Decide bytes long)) (sym test) refl
+
+  -- an operand that wasn't read of told contents
+  pub not_read_comes : (contents : Contents) (name : List ℕ) (before now : FilesSeen) (ending : Ending)
+      → before.told ≡ Some contents → IsNotRead name limit long before now ending
+      → OperandComes limit long (contents_of contents name) Decide ending
+  not_read_comes contents name before now ending told (inl (is, lacks)) =
+      subst (λ e. OperandComes limit long (contents_of contents name) Decide e) (sym is)
+      (lacking_comes contents name (subst (λ seen. Lacks seen name) told lacks))
+  not_read_comes contents name before now ending told (inr (is, is_long)) =
+      subst (λ e. OperandComes limit long (contents_of contents name) Decide e) (sym is)
+      (long_comes (contents_of contents name)
+      (subst (λ seen. IsTooLong seen name limit before.taken now.taken) told is_long))
+
+  -- only told contents lack an operand
+  pub lacks_operand : (told : Option Contents) (name : List ℕ) → Lacks told name
+      → (contents : Contents) × (told ≡ Some contents)
+      × OperandComes limit long (contents_of contents name) Decide ReadFault
+  lacks_operand None name none = absurd none
+  lacks_operand (Some contents) name none = (contents, refl, lacking_comes contents name none)
+
+-- the same of a file
+module _ (limit : ℕ) (Decide : List ℕ → Ending → Type 0) where
   pub file_once : ((file : List ℕ) (a b : Ending) → Decide file a → Decide file b → a ≡ b)
       → (file : Option (List ℕ)) (a b : Ending) → FileComes limit file Decide a → FileComes limit file Decide b → a ≡ b
-  file_once once None a b at_a at_b = at_a ∙ sym at_b
-  file_once once (Some file) a b at_a at_b =
-      limit_once (nat_lt limit (length file)) (File TooLong) (Decide file) (once file) a b at_a at_b
+  file_once = operand_once limit (File TooLong) Decide
 
-  -- a told file that was read is the one that decides
   pub told_comes : (contents : Contents) (name file : List ℕ) (ending : Ending)
       → contents_of contents name ≡ Some file → length file ≤ limit → Decide file ending
       → FileComes limit (contents_of contents name) Decide ending
-  told_comes contents name file ending is fits decides =
-      subst (λ (found : Option (List ℕ)). FileComes limit found Decide ending) (sym is)
-      (within limit (length file) (ending ≡ File TooLong) (Decide file ending) fits decides)
+  told_comes = told_operand limit (File TooLong) Decide
 
   pub of_told_comes : (contents : Contents) (name file : List ℕ) (ending : Ending)
       → contents_of contents name ≡ Some file → length file ≤ limit
       → FileComes limit (contents_of contents name) Decide ending → Decide file ending
-  of_told_comes contents name file ending is fits comes =
-      of_within limit (length file) (ending ≡ File TooLong) (Decide file ending) fits
-      (subst (λ (found : Option (List ℕ)). FileComes limit found Decide ending) is comes)
+  of_told_comes = of_told_operand limit (File TooLong) Decide
 
-  lacking_comes : (contents : Contents) (name : List ℕ) → contents_of contents name ≡ None
-      → FileComes limit (contents_of contents name) Decide ReadFault
-  lacking_comes contents name is =
-      subst (λ (found : Option (List ℕ)). FileComes limit found Decide ReadFault) (sym is) refl
-
-  long_comes : (found : Option (List ℕ)) → IsSomeAnd found (λ bytes. limit < length bytes)
-      → FileComes limit found Decide (File TooLong)
-  long_comes None long = absurd long
-  long_comes (Some file) long =
-      let test : nat_lt limit (length file) ≡ true = grind (arith, nat_tests) in
-      subst (λ (b : Bool). MatchBool b (File TooLong ≡ File TooLong) (Decide file (File TooLong))) (sym test) refl
-
-  -- a file that wasn't read of told contents
   pub no_file_comes : (contents : Contents) (name : List ℕ) (before now : FilesSeen) (ending : Ending)
       → before.told ≡ Some contents → IsNoFile name limit before now ending
       → FileComes limit (contents_of contents name) Decide ending
-  no_file_comes contents name before now ending told (inl (is, lacks)) =
-      subst (λ e. FileComes limit (contents_of contents name) Decide e) (sym is)
-      (lacking_comes contents name (subst (λ seen. Lacks seen name) told lacks))
-  no_file_comes contents name before now ending told (inr (is, long)) =
-      subst (λ e. FileComes limit (contents_of contents name) Decide e) (sym is)
-      (long_comes (contents_of contents name)
-      (subst (λ seen. IsTooLong seen name limit before.taken now.taken) told long))
+  no_file_comes = not_read_comes limit (File TooLong) Decide
 
-  -- only told contents lack a file
   pub lacks_told : (told : Option Contents) (name : List ℕ) → Lacks told name
       → (contents : Contents) × (told ≡ Some contents) × FileComes limit (contents_of contents name) Decide ReadFault
-  lacks_told None name none = absurd none
-  lacks_told (Some contents) name none = (contents, refl, lacking_comes contents name none)
-
-  -- the file is lacking, or its bytes decide
-  pub decided_file : ((file : List ℕ) (ending : Ending) → Decide file ending → IsDecided ending)
-      → (file : Option (List ℕ)) (ending : Ending) → FileComes limit file Decide ending
-      → (ending ≡ ReadFault) ⊎ IsDecided ending
-  decided_file decided None ending is = inl is
-  decided_file decided (Some file) ending comes = inr (at (nat_lt limit (length file)) comes)
-    where
-      at : (test : Bool) → MatchBool test (ending ≡ File TooLong) (Decide file ending) → IsDecided ending
-      at true is = decided_as ending (File TooLong) is tt
-      at false decides = decided file ending decides
+  lacks_told = lacks_operand limit (File TooLong) Decide

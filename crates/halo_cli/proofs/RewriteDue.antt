@@ -106,7 +106,6 @@ decided_rewrite : (why : Option RewriteRefusal) → IsDecided (rewrite_ending wh
 decided_rewrite None = tt
 decided_rewrite (Some (refusal.File why)) = tt
 decided_rewrite (Some (refusal.Plan why)) = tt
-decided_rewrite (Some (refusal.NotYet at)) = tt
 decided_rewrite (Some refusal.Memory) = tt
 
 decided_text : (text file : List ℕ) (ending : Ending) → TextComes text file ending → IsDecided ending

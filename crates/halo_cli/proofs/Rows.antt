@@ -1,21 +1,27 @@
 -- The rows of the table of statuses, from how the line ended and how the program ended after it.
-use Rattle.std.proofs.Common.{◌≡◌, ◌≢◌, ◌∙◌, ℕ, ◌≤◌, ◌⊎◌, inl, inr, ⊎_elim, List, Some, refl, sym, ap, subst, arith, lit≤}
+use Rattle.std.proofs.Common.{◌≡◌, ◌≢◌, ◌∙◌, ℕ, ◌≤◌, ◌⊎◌, inl, inr, ⊎_elim, List, refl, sym, ap, subst, arith, lit≤}
 use Rattle.halo_outside.specs.Seen.{Contents}
 use Rattle.machine_spec.specs.declared.FaultKind.{FaultKind}
 use Rattle.endings.specs.declared.endings.Ending.{Ending}
-use Rattle.endings.specs.declared.endings.Ending.TheVariants.{Done, Usage, File, Plan, ReadFault, WriteFault, Memory, Exited, StillRunning, Fault, Illegal}
+use Rattle.endings.specs.declared.endings.Ending.TheVariants.{Done, Usage, File, Plan, Profile, ReadFault, WriteFault, Memory, Exited, StillRunning, Fault, Illegal}
 use Rattle.endings.specs.declared.endings.BadFile.{BadFile}
 use Rattle.endings.specs.declared.endings.BadPlan.{BadPlan}
+use Rattle.endings.specs.declared.endings.BadProfile.{BadProfile}
 use Rattle.halo_words.specs.Table.{the_table}
 use Rattle.halo_words.specs.Grammar.{Asked, AsksFor, IsLine, IsFirstWrong}
+use Rattle.halo_cli.specs.Options.{Policies}
+use Rattle.halo_cli.specs.Valid.{Asks, IsValid, IsWrongAt}
 use Rattle.endings.specs.Endings.{status_of}
 use Rattle.halo_cli.specs.Writing.{IsUnmoved, NotesLine}
-use Rattle.halo_cli.specs.Commands.{entry_of, CommandComes, Brings, IsDone}
+use Rattle.halo_cli.specs.Commands.{entry_in}
+use Rattle.halo_cli.specs.Reads.{AreTold}
 use Rattle.halo_cli.specs.World.{Outside, World, OnlyMoves}
-use Rattle.halo_cli.specs.Ends.{HasCause, Ends, LineEnds, IsFinished}
+use Rattle.halo_cli.specs.Ends.{HasCauseOf, EndsOf, LineEnds, IsFinished}
 use Rattle.halo_cli.specs.Answers.{ToldBring, LineBrings, ReadFailed, OutFailed, NoteFailed, Gives, GivesIfRead, GivesIfRun, Answers}
 use Rattle.halo_cli.proofs.CommandLaws.{MayWrite, Laws}
 use Rattle.halo_cli.proofs.RewriteDue.{TextsOnce}
+use Rattle.halo_cli.proofs.PlanDue.{ProfilesOnce}
+use Rattle.halo_cli.proofs.Valid.{valid_once, wrong_is_not_valid}
 use Rattle.halo_cli.proofs.Due.{laws_of, unmoved_by}
 
 -- each status is that of one kind of ending
@@ -28,8 +34,10 @@ is_file : (ending : Ending) → status_of ending ≡ 65 → (why : BadFile) × (
 is_file (File why) is = (why, refl)
 is_file ending is = absurd (omega arith)
 
-is_plan : (ending : Ending) → status_of ending ≡ 66 → (why : BadPlan) × (ending ≡ Plan why)
-is_plan (Plan why) is = (why, refl)
+is_plan : (ending : Ending) → status_of ending ≡ 66
+    → ((why : BadPlan) × (ending ≡ Plan why)) ⊎ ((why : BadProfile) × (ending ≡ Profile why))
+is_plan (Plan why) is = inl (why, refl)
+is_plan (Profile why) is = inr (why, refl)
 is_plan ending is = absurd (omega arith)
 
 is_read_fault : (ending : Ending) → status_of ending ≡ 67 → ending ≡ ReadFault
@@ -59,6 +67,7 @@ status_range (Exited status steps) = inl refl
 status_range (Usage place) = inr (lit≤ tt, lit≤ tt)
 status_range (File why) = inr (lit≤ tt, lit≤ tt)
 status_range (Plan why) = inr (lit≤ tt, lit≤ tt)
+status_range (Profile why) = inr (lit≤ tt, lit≤ tt)
 status_range ReadFault = inr (lit≤ tt, lit≤ tt)
 status_range WriteFault = inr (lit≤ tt, lit≤ tt)
 status_range Memory = inr (lit≤ tt, lit≤ tt)
@@ -70,13 +79,13 @@ unmoved : (before now : Outside) → now ≡ before → OnlyMoves before now
 unmoved before now same = subst (λ outside. OnlyMoves before outside) (sym same) (unmoved_by before)
 
 -- the table holds of a line that ended, and of the program after it, where words ask for one thing, words with a
--- first wrong one are no line, and a plan's text and a file bring `rewrite` to one ending
-module _ (texts_once : TextsOnce)
+-- first wrong one are no line, a plan's text and a file bring `rewrite` to one ending, and a profile's text `plan`
+module _ (texts_once : TextsOnce) (profiles_once : ProfilesOnce)
     (asks_once : (words : List (List ℕ)) (a b : Asked) → AsksFor the_table words a → AsksFor the_table words b → a ≡ b)
     (first_wrong_is_no_line : (words : List (List ℕ)) (place : ℕ) → IsFirstWrong the_table words place
     → IsLine the_table words → ⊥)
-    (words : List (List ℕ)) (before now : World) (ending : Ending) (status : ℕ)
-    (ends : LineEnds words before.outside now.outside ending)
+    (policies : Policies) (words : List (List ℕ)) (before now : World) (ending : Ending) (status : ℕ)
+    (ends : LineEnds policies words before.outside now.outside ending)
     (finished : IsFinished ending before.note now.note status) where
   -- the status is that of the ending, and note has its line; or note failed
   noted : ((status ≡ status_of ending) × NotesLine before now ending) ⊎ ((status ≡ 68) × NoteFailed before now)
@@ -86,19 +95,35 @@ module _ (texts_once : TextsOnce)
   by_status : status ≢ 68 → (status ≡ status_of ending) × NotesLine before now ending
   by_status other = ⊎_elim (λ by. by) (λ by. absurd (other by.0)) noted
 
-  laws : (asked : Asked) → Laws (entry_of asked)
-  laws asked = laws_of texts_once asked
+  laws : (asked : Asked) → Laws (entry_in policies asked)
+  laws asked = laws_of texts_once profiles_once policies asked
+
+  -- words with a wrong one are no line that is taken
+  not_valid : (place : ℕ) → IsWrongAt policies.names words place → IsValid policies.names words → ⊥
+  not_valid place = wrong_is_not_valid asks_once first_wrong_is_no_line policies.names words place
+
+  -- what a line asks for ends so
+  abbrev EndsSo : Asked → Ending → Type 0
+  EndsSo asked ending = EndsOf (entry_in policies asked) asked.given before.outside now.outside ending
+
+  -- its cause
+  abbrev CausedSo : Asked → Ending → Type 0
+  CausedSo asked ending = HasCauseOf (entry_in policies asked) asked.given before.outside now.outside ending
+
+  -- what was read brings it there
+  abbrev BroughtSo : Asked → Ending → Type 0
+  BroughtSo asked ending = (entry_in policies asked).brings asked.given before.outside now.outside ending
 
   -- the line came to a command, unless the ending says that it didn't
-  asked_by : (ending : Ending) → LineEnds words before.outside now.outside ending
+  asked_by : (ending : Ending) → LineEnds policies words before.outside now.outside ending
       → status_of ending ≢ 64 → status_of ending ≢ 69
-      → (asked : Asked) × AsksFor the_table words asked × Ends asked before.outside now.outside ending
+      → (asked : Asked) × Asks policies.names words asked × EndsSo asked ending
   asked_by ending (inl (place, is, wrong, same)) usage memory = absurd (usage (ap status_of is))
   asked_by ending (inr (inl (is, line, same))) usage memory = absurd (memory (ap status_of is))
   asked_by ending (inr (inr command)) usage memory = command
 
-  usage_only : status ≡ 64 → (IsLine the_table words → ⊥)
-      × ((place : ℕ) × IsFirstWrong the_table words place × NotesLine before now (Usage place))
+  usage_only : status ≡ 64 → (IsValid policies.names words → ⊥)
+      × ((place : ℕ) × IsWrongAt policies.names words place × NotesLine before now (Usage place))
   usage_only is = at ends
     where
       by : (status ≡ status_of ending) × NotesLine before now ending
@@ -107,46 +132,51 @@ module _ (texts_once : TextsOnce)
       usage : (place : ℕ) × (ending ≡ Usage place)
       usage = is_usage ending (sym by.0 ∙ is)
 
-      at : LineEnds words before.outside now.outside ending
-          → (IsLine the_table words → ⊥)
-          × ((place : ℕ) × IsFirstWrong the_table words place × NotesLine before now (Usage place))
+      at : LineEnds policies words before.outside now.outside ending
+          → (IsValid policies.names words → ⊥)
+          × ((place : ℕ) × IsWrongAt policies.names words place × NotesLine before now (Usage place))
       at (inl (place, is_usage', wrong, same)) =
-          (first_wrong_is_no_line words place wrong, (place, wrong, subst (λ e. NotesLine before now e) is_usage' by.1))
+          (not_valid place wrong, (place, wrong, subst (λ e. NotesLine before now e) is_usage' by.1))
       at (inr (inl (is, line, same))) = absurd (let both : Usage usage.0 ≡ Memory = sym usage.1 ∙ is in cc)
       at (inr (inr (asked, asks, command))) =
-          absurd (subst (λ e. HasCause asked before.outside now.outside e) usage.1 command.cause)
+          absurd (subst (λ e. CausedSo asked e) usage.1 command.cause)
 
-  -- where the words are no line the ending says so
-  no_line : (IsLine the_table words → ⊥) → (place : ℕ) × (ending ≡ Usage place) × (now.outside ≡ before.outside)
-  no_line none = at ends
+  -- where the words are no line that is taken, the ending says so, or memory was wanting
+  not_taken : (IsValid policies.names words → ⊥)
+      → (((place : ℕ) × (ending ≡ Usage place)) ⊎ (ending ≡ Memory)) × (now.outside ≡ before.outside)
+  not_taken none = at ends
     where
-      at : LineEnds words before.outside now.outside ending
-          → (place : ℕ) × (ending ≡ Usage place) × (now.outside ≡ before.outside)
-      at (inl (place, is, wrong, same)) = (place, is, same)
-      at (inr (inl (is, line, same))) = absurd (none line)
+      at : LineEnds policies words before.outside now.outside ending
+          → (((place : ℕ) × (ending ≡ Usage place)) ⊎ (ending ≡ Memory)) × (now.outside ≡ before.outside)
+      at (inl (place, is, wrong, same)) = (inl (place, is), same)
+      at (inr (inl (is, line, same))) = (inr is, same)
       at (inr (inr (asked, asks, command))) = absurd (none (asked, asks))
 
   gives : (want : ℕ) → status_of ending ≡ want → Gives want before now status
   gives want is = ⊎_elim (λ by. inl (by.0 ∙ is)) (λ by. inr (inr by)) noted
 
-  usage_always : (IsLine the_table words → ⊥) → Gives 64 before now status
-  usage_always none = gives 64 (ap status_of (no_line none).1)
+  memory_gives : (want : ℕ) → ending ≡ Memory → Gives want before now status
+  memory_gives want is = ⊎_elim (λ by. inr (inl (by.0 ∙ ap status_of is))) (λ by. inr (inr by)) noted
+
+  usage_always : (IsValid policies.names words → ⊥) → Gives 64 before now status
+  usage_always none =
+      ⊎_elim (λ usage. gives 64 (ap status_of usage.1)) (λ is. memory_gives 64 is) (not_taken none).0
 
   -- what was read brings the line to an ending that was its own
   brought : (want : Ending) → ending ≡ want
-      → ((asked : Asked) → HasCause asked before.outside now.outside want
-      → Brings asked before.outside now.outside want)
-      → status_of want ≢ 64 → status_of want ≢ 69 → LineBrings words before now want
+      → ((asked : Asked) → CausedSo asked want → BroughtSo asked want)
+      → status_of want ≢ 64 → status_of want ≢ 69 → LineBrings policies words before now want
   brought want is own usage memory =
       let command = asked_by ending ends (λ e. usage (sym (ap status_of is) ∙ e))
       (λ e. memory (sym (ap status_of is) ∙ e)) in (
         command.0,
         command.1,
         own command.0
-            (subst (λ e. HasCause command.0 before.outside now.outside e) is command.2.cause),
+            (subst (λ e. CausedSo command.0 e) is command.2.cause),
       )
 
-  file_only : status ≡ 65 → (why : BadFile) × LineBrings words before now (File why) × NotesLine before now (File why)
+  file_only : status ≡ 65
+      → (why : BadFile) × LineBrings policies words before now (File why) × NotesLine before now (File why)
   file_only is =
       let by = by_status (λ e. omega arith) in
       let found = is_file ending (sym by.0 ∙ is) in (
@@ -155,17 +185,32 @@ module _ (texts_once : TextsOnce)
         subst (λ e. NotesLine before now e) found.1 by.1,
       )
 
-  plan_only : status ≡ 66 → (why : BadPlan) × LineBrings words before now (Plan why) × NotesLine before now (Plan why)
-  plan_only is =
-      let by = by_status (λ e. omega arith) in
-      let found = is_plan ending (sym by.0 ∙ is) in (
-        found.0,
-        brought (Plan found.0) found.1 (λ asked cause. cause) (λ e. omega arith) (λ e. omega arith),
-        subst (λ e. NotesLine before now e) found.1 by.1,
+  plan_only : status ≡ 66
+      → ((why : BadPlan) × LineBrings policies words before now (Plan why) × NotesLine before now (Plan why))
+      ⊎ ((why : BadProfile) × LineBrings policies words before now (Profile why) × NotesLine before now (Profile why))
+  plan_only is = at (is_plan ending (sym by.0 ∙ is))
+    where
+      by : (status ≡ status_of ending) × NotesLine before now ending
+      by = by_status (λ e. omega arith)
+
+      at : ((why : BadPlan) × (ending ≡ Plan why)) ⊎ ((why : BadProfile) × (ending ≡ Profile why))
+          → ((why : BadPlan) × LineBrings policies words before now (Plan why) × NotesLine before now (Plan why))
+          ⊎ ((why : BadProfile) × LineBrings policies words before now (Profile why)
+          × NotesLine before now (Profile why))
+      at (inl (why, found)) = inl (
+        why,
+        brought (Plan why) found (λ asked cause. cause) (λ e. omega arith) (λ e. omega arith),
+        subst (λ e. NotesLine before now e) found by.1,
+      )
+      at (inr (why, found)) = inr (
+        why,
+        brought (Profile why) found (λ asked cause. cause) (λ e. omega arith) (λ e. omega arith),
+        subst (λ e. NotesLine before now e) found by.1,
       )
 
   running_only : status ≡ 70
-      → (steps : ℕ) × LineBrings words before now (StillRunning steps) × NotesLine before now (StillRunning steps)
+      → (steps : ℕ) × LineBrings policies words before now (StillRunning steps)
+      × NotesLine before now (StillRunning steps)
   running_only is =
       let by = by_status (λ e. omega arith) in
       let found = is_running ending (sym by.0 ∙ is) in (
@@ -175,7 +220,7 @@ module _ (texts_once : TextsOnce)
       )
 
   fault_only : status ≡ 71 → (kind : FaultKind) × (at : ℕ) × (steps : ℕ)
-      × LineBrings words before now (Fault kind at steps) × NotesLine before now (Fault kind at steps)
+      × LineBrings policies words before now (Fault kind at steps) × NotesLine before now (Fault kind at steps)
   fault_only is =
       let by = by_status (λ e. omega arith) in
       let found = is_fault ending (sym by.0 ∙ is) in (
@@ -187,7 +232,7 @@ module _ (texts_once : TextsOnce)
       )
 
   illegal_only : status ≡ 72
-      → (at : ℕ) × (steps : ℕ) × LineBrings words before now (Illegal at steps)
+      → (at : ℕ) × (steps : ℕ) × LineBrings policies words before now (Illegal at steps)
       × NotesLine before now (Illegal at steps)
   illegal_only is =
       let by = by_status (λ e. omega arith) in
@@ -199,7 +244,7 @@ module _ (texts_once : TextsOnce)
         subst (λ e. NotesLine before now e) found.2 by.1,
       )
 
-  read_only : status ≡ 67 → ReadFailed words before now ⊎ ToldBring words before ReadFault
+  read_only : status ≡ 67 → ReadFailed policies words before now ⊎ ToldBring policies words before ReadFault
   read_only is =
       let by = by_status (λ e. omega arith) in
       let found : ending ≡ ReadFault = is_read_fault ending (sym by.0 ∙ is) in
@@ -207,8 +252,8 @@ module _ (texts_once : TextsOnce)
       (λ e. omega (arith, ap status_of found, e)) in
       ⊎_elim (λ failed. inl (command.0, command.1, failed))
       (λ brings. (let lacks = (laws command.0).lacking command.0.given before.outside now.outside brings in
-      inr (lacks.0, lacks.1, (command.0, command.1, lacks.2))))
-      (subst (λ e. HasCause command.0 before.outside now.outside e) found command.2.cause)
+      inr (lacks.0, command.0, command.1, lacks.1, lacks.2)))
+      (subst (λ e. CausedSo command.0 e) found command.2.cause)
 
   write_only : status ≡ 68 → OutFailed before now ⊎ NoteFailed before now
   write_only is = ⊎_elim (λ by. inl (out (is_write_fault ending (sym by.0 ∙ is)))) (λ by. inr by.1) noted
@@ -217,23 +262,23 @@ module _ (texts_once : TextsOnce)
       out found =
           let command = asked_by ending ends (λ e. omega (arith, ap status_of found, e))
           (λ e. omega (arith, ap status_of found, e)) in
-          (subst (λ e. HasCause command.0 before.outside now.outside e) found command.2.cause).0
+          (subst (λ e. CausedSo command.0 e) found command.2.cause).0
 
   -- the ending is the one that is due, or an excuse with its cause
   abbrev Settles : Ending → Ending → Type 0
-  Settles due ending = (ending ≡ due) ⊎ ((ending ≡ ReadFault) × ReadFailed words before now)
+  Settles due ending = (ending ≡ due) ⊎ ((ending ≡ ReadFault) × ReadFailed policies words before now)
       ⊎ ((ending ≡ WriteFault) × OutFailed before now × MayWrite due) ⊎ (ending ≡ Memory)
 
   brought_settles : (asked : Asked) (due ending : Ending) (contents : Contents)
-      → before.outside.files.told ≡ Some contents
-      → CommandComes asked contents before.outside.input.told due → Brings asked before.outside now.outside ending
+      → AreTold ((entry_in policies asked).reads asked.given) before.outside.files contents
+      → (entry_in policies asked).comes asked.given contents before.outside.input.told due → BroughtSo asked ending
       → Settles due ending
   brought_settles asked due ending contents told comes brings =
       inl ((laws asked).due asked.given contents before.outside now.outside due ending told comes brings)
 
-  cause_settles : (asked : Asked) → AsksFor the_table words asked → (due ending : Ending) (contents : Contents)
-      → before.outside.files.told ≡ Some contents
-      → CommandComes asked contents before.outside.input.told due → HasCause asked before.outside now.outside ending
+  cause_settles : (asked : Asked) → Asks policies.names words asked → (due ending : Ending) (contents : Contents)
+      → AreTold ((entry_in policies asked).reads asked.given) before.outside.files contents
+      → (entry_in policies asked).comes asked.given contents before.outside.input.told due → CausedSo asked ending
       → Settles due ending
   cause_settles asked asks due Done contents told comes cause = brought_settles asked due Done contents told comes cause
   cause_settles asked asks due (Exited s n) contents told comes cause =
@@ -243,6 +288,8 @@ module _ (texts_once : TextsOnce)
       brought_settles asked due (File why) contents told comes cause
   cause_settles asked asks due (Plan why) contents told comes cause =
       brought_settles asked due (Plan why) contents told comes cause
+  cause_settles asked asks due (Profile why) contents told comes cause =
+      brought_settles asked due (Profile why) contents told comes cause
   cause_settles asked asks due ReadFault contents told comes (inl failed) = inr (inl (refl, (asked, asks, failed)))
   cause_settles asked asks due ReadFault contents told comes (inr brings) =
       brought_settles asked due ReadFault contents told comes brings
@@ -260,23 +307,23 @@ module _ (texts_once : TextsOnce)
   cause_settles asked asks due (Illegal at n) contents told comes cause =
       brought_settles asked due (Illegal at n) contents told comes cause
 
-  settles : (due : Ending) → ToldBring words before due → Settles due ending
-  settles due (contents, told, (asked, asks, comes)) = at ends
+  settles : (due : Ending) → ToldBring policies words before due → Settles due ending
+  settles due (contents, asked, asks, told, comes) = at ends
     where
-      at : LineEnds words before.outside now.outside ending → Settles due ending
-      at (inl (place, is, wrong, same)) = absurd (first_wrong_is_no_line words place wrong (asked, asks))
+      at : LineEnds policies words before.outside now.outside ending → Settles due ending
+      at (inl (place, is, wrong, same)) = absurd (not_valid place wrong (asked, asks))
       at (inr (inl (is, line, same))) = inr (inr (inr is))
       at (inr (inr (asked', asks', command))) =
-          let same : asked ≡ asked' = asks_once words asked asked' asks asks' in
-          cause_settles asked' asks' due ending contents told
-          (subst (λ a. CommandComes a contents before.outside.input.told due) same comes) command.cause
-
-  memory_gives : (want : ℕ) → ending ≡ Memory → Gives want before now status
-  memory_gives want is = ⊎_elim (λ by. inr (inl (by.0 ∙ ap status_of is))) (λ by. inr (inr by)) noted
+          let same : asked ≡ asked' = valid_once asks_once first_wrong_is_no_line policies.names words asked asked'
+          asks asks' in
+          cause_settles asked' asks' due ending contents
+          (subst (λ a. AreTold ((entry_in policies a).reads a.given) before.outside.files contents) same told)
+          (subst (λ a. (entry_in policies a).comes a.given contents before.outside.input.told due) same comes)
+          command.cause
 
   -- a refusal that is due
   refusal_gives : (due : Ending) → (MayWrite due → ⊥) → Settles due ending
-      → GivesIfRead words (status_of due) before now status
+      → GivesIfRead policies words (status_of due) before now status
   refusal_gives due never (inl is) = inr (gives (status_of due) (ap status_of is))
   refusal_gives due never (inr (inl (is, failed))) =
       ⊎_elim (λ by. inl (by.0 ∙ ap status_of is, failed)) (λ by. inr (inr (inr by))) noted
@@ -284,7 +331,7 @@ module _ (texts_once : TextsOnce)
   refusal_gives due never (inr (inr (inr is))) = inr (memory_gives (status_of due) is)
 
   -- an end of a run that is due
-  run_gives : (due : Ending) → Settles due ending → GivesIfRun words (status_of due) before now status
+  run_gives : (due : Ending) → Settles due ending → GivesIfRun policies words (status_of due) before now status
   run_gives due (inl is) = inr (inr (gives (status_of due) (ap status_of is)))
   run_gives due (inr (inl (is, failed))) =
       ⊎_elim (λ by. inr (inl (by.0 ∙ ap status_of is, failed))) (λ by. inr (inr (inr (inr by)))) noted
@@ -292,7 +339,7 @@ module _ (texts_once : TextsOnce)
       ⊎_elim (λ by. inl (by.0 ∙ ap status_of is, rose)) (λ by. inr (inr (inr (inr by)))) noted
   run_gives due (inr (inr (inr is))) = inr (inr (memory_gives (status_of due) is))
 
-  read_always : ToldBring words before ReadFault → Gives 67 before now status
+  read_always : ToldBring policies words before ReadFault → Gives 67 before now status
   read_always told = at (settles ReadFault told)
     where
       at : Settles ReadFault ending → Gives 67 before now status
@@ -301,8 +348,8 @@ module _ (texts_once : TextsOnce)
       at (inr (inr (inl (is, rose, may)))) = absurd (⊎_elim (λ e. omega (arith, e)) (λ e. omega (arith, e)) may)
       at (inr (inr (inr is))) = memory_gives 67 is
 
-  complete : (due : Ending) → status_of due ≡ 0 → ToldBring words before due
-      → (ReadFailed words before now → ⊥) → (OutFailed before now → ⊥) → (NoteFailed before now → ⊥)
+  complete : (due : Ending) → status_of due ≡ 0 → ToldBring policies words before due
+      → (ReadFailed policies words before now → ⊥) → (OutFailed before now → ⊥) → (NoteFailed before now → ⊥)
       → (status ≡ 0) ⊎ (status ≡ 69)
   complete due zero told read out note = at (settles due told)
     where
@@ -316,15 +363,16 @@ module _ (texts_once : TextsOnce)
       at (inr (inr (inr is))) = inr (line ∙ ap status_of is)
 
   done_command : (asked : Asked) (ending : Ending) → status_of ending ≡ 0 → NotesLine before now ending
-      → Ends asked before.outside now.outside ending
-      → IsFinished ending before.note now.note status → IsDone asked before now
+      → EndsSo asked ending
+      → IsFinished ending before.note now.note status → (entry_in policies asked).done asked.given before now
   done_command asked Done zero line command finished =
       (laws asked).done asked.given before now Done zero line (λ is. finished.quiet refl) command.cause command.leaves
   done_command asked (Exited s n) zero line command finished =
       (laws asked).done asked.given before now (Exited s n) zero line (λ is. absurd (cc)) command.cause command.leaves
   done_command asked ending zero line command finished = absurd (omega arith)
 
-  done : status ≡ 0 → (asked : Asked) × AsksFor the_table words asked × IsDone asked before now
+  done : status ≡ 0 → (asked : Asked) × Asks policies.names words asked
+      × (entry_in policies asked).done asked.given before now
   done is =
       let by = by_status (λ e. omega arith) in
       let zero : status_of ending ≡ 0 = sym by.0 ∙ is in
@@ -339,7 +387,7 @@ module _ (texts_once : TextsOnce)
       at which ends
     where
       at : (status_of ending ≡ 65) ⊎ (status_of ending ≡ 66) ⊎ (status_of ending ≡ 69)
-          → LineEnds words before.outside now.outside ending → IsUnmoved before.outside now.outside
+          → LineEnds policies words before.outside now.outside ending → IsUnmoved before.outside now.outside
       at which (inl (place, is, wrong, same)) = (ap (λ (o : Outside). o.input) same, ap (λ (o : Outside). o.out) same)
       at which (inr (inl (is, line, same))) = (ap (λ (o : Outside). o.input) same, ap (λ (o : Outside). o.out) same)
       at which (inr (inr (asked, asks, command))) =
@@ -350,7 +398,7 @@ module _ (texts_once : TextsOnce)
       not_68 e (inr (inl is)) = omega arith
       not_68 e (inr (inr is)) = omega arith
 
-  moves : LineEnds words before.outside now.outside ending → OnlyMoves before.outside now.outside
+  moves : LineEnds policies words before.outside now.outside ending → OnlyMoves before.outside now.outside
   moves (inl (place, is, wrong, same)) = unmoved before.outside now.outside same
   moves (inr (inl (is, line, same))) = unmoved before.outside now.outside same
   moves (inr (inr (asked, asks, command))) = command.moves
@@ -361,17 +409,19 @@ module _ (texts_once : TextsOnce)
       (λ range. inr (omega (arith, by.0, range.0), omega (arith, by.0, range.1))) (status_range ending))
       (λ by. inr (omega (arith, by.0), omega (arith, by.0))) noted
 
-  pub line_answers : Answers words before now status
+  pub line_answers : Answers policies words before now status
   line_answers = record {
     usage_only = usage_only;
     usage_always = usage_always;
-    untouched = λ none. (no_line none).2;
+    untouched = λ none. (not_taken none).1;
     file_only = file_only;
     file_always = λ why told. refusal_gives (File why)
         (λ may. ⊎_elim (λ e. omega (arith, e)) (λ e. omega (arith, e)) may) (settles (File why) told);
     plan_only = plan_only;
     plan_always = λ why told. refusal_gives (Plan why)
         (λ may. ⊎_elim (λ e. omega (arith, e)) (λ e. omega (arith, e)) may) (settles (Plan why) told);
+    profile_always = λ why told. refusal_gives (Profile why)
+        (λ may. ⊎_elim (λ e. omega (arith, e)) (λ e. omega (arith, e)) may) (settles (Profile why) told);
     read_only = read_only;
     read_always = read_always;
     write_only = write_only;

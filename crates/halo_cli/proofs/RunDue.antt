@@ -11,7 +11,7 @@ use Rattle.flat_spec.specs.Machine.{Machine, start}
 use Rattle.flat_spec.specs.Turns.{turn, turn_of}
 use Rattle.flat_spec.specs.Runs.{State, step, steps, flat_run}
 use Rattle.endings.specs.declared.endings.Ending.{Ending}
-use Rattle.endings.specs.declared.endings.Ending.TheVariants.{Done, File, Plan, ReadFault, WriteFault, Memory, Usage, Exited, StillRunning, Fault, Illegal}
+use Rattle.endings.specs.declared.endings.Ending.TheVariants.{Done, File, Plan, Profile, ReadFault, WriteFault, Memory, Usage, Exited, StillRunning, Fault, Illegal}
 use Rattle.endings.specs.declared.endings.BadFile.TheVariants.{Refused}
 use Rattle.endings.specs.Endings.{status_of}
 use Rattle.halo_cli.specs.World.{Outside}
@@ -133,6 +133,7 @@ run_end_once file input bound Done b at_a at_b = absurd at_a
 run_end_once file input bound (Usage k) b at_a at_b = absurd at_a
 run_end_once file input bound (File why) b at_a at_b = absurd at_a
 run_end_once file input bound (Plan why) b at_a at_b = absurd at_a
+run_end_once file input bound (Profile why) b at_a at_b = absurd at_a
 run_end_once file input bound ReadFault b at_a at_b = absurd at_a
 run_end_once file input bound WriteFault b at_a at_b = absurd at_a
 run_end_once file input bound Memory b at_a at_b = absurd at_a
@@ -246,6 +247,7 @@ run_silent : (bound : ℕ) (name : List ℕ) (before now : Outside) (ending : En
     → RunLeaves bound name before now ending → IsUnmoved before now
 run_silent bound name before now (File why) one leaves = leaves.silent (λ n after. after, λ e. cc) (λ e. cc)
 run_silent bound name before now (Plan why) one leaves = leaves.silent (λ n after. after, λ e. cc) (λ e. cc)
+run_silent bound name before now (Profile why) one leaves = leaves.silent (λ n after. after, λ e. cc) (λ e. cc)
 run_silent bound name before now Memory one leaves = leaves.silent (λ n after. after, λ e. cc) (λ e. cc)
 run_silent bound name before now ending (inl is) leaves = absurd (omega arith)
 run_silent bound name before now ending (inr (inl is)) leaves = absurd (omega arith)

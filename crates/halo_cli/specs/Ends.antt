@@ -5,32 +5,43 @@ use Rattle.halo_cli.specs.World.{Outside, OnlyMoves, OnlyWrites}
 use Rattle.endings.specs.declared.endings.Ending.{Ending}
 use Rattle.endings.specs.declared.endings.Ending.TheVariants.{Usage, ReadFault, WriteFault, Memory}
 use Rattle.halo_words.specs.Table.{the_table}
-use Rattle.halo_words.specs.Grammar.{Asked, AsksFor, IsLine, IsFirstWrong}
+use Rattle.halo_words.specs.Grammar.{Given, Asked, IsLine}
 use Rattle.endings.specs.Endings.{status_of, line_of}
-use Rattle.halo_cli.specs.Commands.{reads_of, Brings, IsStarted, ReadFails, Leaves}
+use Rattle.halo_cli.specs.Entry.{Entry}
+use Rattle.halo_cli.specs.Options.{Policies}
+use Rattle.halo_cli.specs.Valid.{Asks, IsWrongAt}
+use Rattle.halo_cli.specs.Commands.{entry_in, entry_of}
 use Rattle.halo_cli.specs.Reads.{AreFirstReads}
 
 -- the cause of an ending: what was read brings the command to it, or a count that rose
-abbrev pub HasCause : Asked → Outside → Outside → Ending → Type 0
-HasCause asked before now (Usage place) = ⊥
-HasCause asked before now ReadFault = ReadFails asked before now ⊎ Brings asked before now ReadFault
-HasCause asked before now WriteFault = Rose before.out.faults now.out.faults × IsStarted asked before now
-HasCause asked before now Memory = Unit {0}
-HasCause asked before now ending = Brings asked before now ending
+abbrev pub HasCauseOf : Entry → Given → Outside → Outside → Ending → Type 0
+HasCauseOf entry given before now (Usage place) = ⊥
+HasCauseOf entry given before now ReadFault = entry.fails given before now ⊎ entry.brings given before now ReadFault
+HasCauseOf entry given before now WriteFault = Rose before.out.faults now.out.faults × entry.started given before now
+HasCauseOf entry given before now Memory = Unit {0}
+HasCauseOf entry given before now ending = entry.brings given before now ending
 
 -- how a command ends: the cause, what it does to the outside, and that it reads no other files than its words name
-pub record Ends (asked : Asked) (before now : Outside) (ending : Ending) : Type 0 where
-  pub cause : HasCause asked before now ending
-  pub leaves : Leaves asked before now ending
+pub record EndsOf (entry : Entry) (given : Given) (before now : Outside) (ending : Ending) : Type 0 where
+  pub cause : HasCauseOf entry given before now ending
+  pub leaves : entry.leaves given before now ending
   pub moves : OnlyMoves before now
-  pub reads : AreFirstReads (reads_of asked) before.files now.files ending
+  pub reads : AreFirstReads (entry.reads given) before.files now.files ending
 
--- how a line of words ends: it is none; or memory was wanting for its values; or it asks for a command that ends so
-abbrev pub LineEnds : List (List ℕ) → Outside → Outside → Ending → Type 0
-LineEnds words before now ending =
-    ((place : ℕ) × (ending ≡ Usage place) × IsFirstWrong the_table words place × (now ≡ before))
+-- the same of a command that uses no policy, by the word of its line
+abbrev pub HasCause : Asked → Outside → Outside → Ending → Type 0
+HasCause asked = HasCauseOf (entry_of asked) asked.given
+
+abbrev pub Ends : Asked → Outside → Outside → Ending → Type 0
+Ends asked = EndsOf (entry_of asked) asked.given
+
+-- how a line of words ends: it isn't taken; or memory was wanting for its values; or it asks for a command that ends so
+abbrev pub LineEnds : Policies → List (List ℕ) → Outside → Outside → Ending → Type 0
+LineEnds policies words before now ending =
+    ((place : ℕ) × (ending ≡ Usage place) × IsWrongAt policies.names words place × (now ≡ before))
     ⊎ ((ending ≡ Memory) × IsLine the_table words × (now ≡ before))
-    ⊎ ((asked : Asked) × AsksFor the_table words asked × Ends asked before now ending)
+    ⊎ ((asked : Asked) × Asks policies.names words asked
+    × EndsOf (entry_in policies asked) asked.given before now ending)
 
 -- the whole line of an ending was written, or note failed after a part of it
 abbrev pub IsNoted : Ending → SinkSeen → SinkSeen → ℕ → Type 0

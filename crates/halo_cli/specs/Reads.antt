@@ -2,14 +2,17 @@
 -- an ending.
 use Rattle.std.specs.Prelude.{◌≡◌, ℕ, ◌≤◌, ◌⊎◌, nat_lt, List, [], ◌∷◌, length, Option, None, Some}
 use Rattle.std.specs.Bool.{MatchBool}
-use Rattle.halo_outside.specs.Seen.{FilesSeen, count_after, Rose, IsToldAt, Lacks, IsTooLong}
+use Rattle.halo_outside.specs.Seen.{Contents, FilesSeen, count_after, Rose, IsToldAt, Lacks, IsTooLong}
 use Rattle.endings.specs.declared.endings.Ending.{Ending}
 use Rattle.endings.specs.declared.endings.Ending.TheVariants.{File, ReadFault, Memory}
 use Rattle.endings.specs.declared.endings.BadFile.TheVariants.{TooLong}
 
--- the most bytes of a plan's text, of a file that is rewritten or shown and of one that is run
+-- the most bytes of a plan's text, of a profile's, of a file that is rewritten or shown and of one that is run
 abbrev pub plan_limit : ℕ
 plan_limit = 1048576
+
+abbrev pub profile_limit : ℕ
+profile_limit = 33554432
 
 abbrev pub file_limit : ℕ
 file_limit = 33554432
@@ -28,6 +31,11 @@ pub record FileRead : Type 0 where
   pub name : List ℕ
   pub limit : ℕ
   pub long : Ending
+
+-- the files tell these contents; where nothing is read of them, they need not
+abbrev pub AreTold : List FileRead → FilesSeen → Contents → Type 0
+AreTold [] files contents = Unit {0}
+AreTold (read ∷ reads) files contents = files.told ≡ Some contents
 
 -- it gave the file's bytes
 pub record IsWhole (read : FileRead) (before now : FilesSeen) : Type 0 where
@@ -59,17 +67,25 @@ AreFirstReads (read ∷ reads) before now ending = ((ending ≡ Memory) × (now 
     ⊎ (IsStopped read before now × StopsSo read before now ending)
     ⊎ ((between : FilesSeen) × IsWhole read before between × AreFirstReads reads between now ending)
 
--- to which ending told contents bring a command that reads one more file: it is lacking, is longer than its
+-- to which ending told contents bring a command that reads one more operand: it is lacking, is longer than its
 -- limit, or its bytes decide
-abbrev pub FileComes : ℕ → Option (List ℕ) → (List ℕ → Ending → Type 0) → Ending → Type 0
-FileComes limit None Decide ending = ending ≡ ReadFault
-FileComes limit (Some file) Decide ending =
-    MatchBool (nat_lt limit (length file)) (ending ≡ File TooLong) (Decide file ending)
+abbrev pub OperandComes : ℕ → Ending → Option (List ℕ) → (List ℕ → Ending → Type 0) → Ending → Type 0
+OperandComes limit long None Decide ending = ending ≡ ReadFault
+OperandComes limit long (Some bytes) Decide ending =
+    MatchBool (nat_lt limit (length bytes)) (ending ≡ long) (Decide bytes ending)
 
--- the ending of a command whose one file is lacking or longer than its limit
+-- of a file
+abbrev pub FileComes : ℕ → Option (List ℕ) → (List ℕ → Ending → Type 0) → Ending → Type 0
+FileComes limit = OperandComes limit (File TooLong)
+
+-- the ending of a command whose operand is lacking or longer than its limit
+abbrev pub IsNotRead : List ℕ → ℕ → Ending → FilesSeen → FilesSeen → Ending → Type 0
+IsNotRead name limit long before now ending = ((ending ≡ ReadFault) × Lacks before.told name)
+    ⊎ ((ending ≡ long) × IsTooLong before.told name limit before.taken now.taken)
+
+-- of a file
 abbrev pub IsNoFile : List ℕ → ℕ → FilesSeen → FilesSeen → Ending → Type 0
-IsNoFile name limit before now ending = ((ending ≡ ReadFault) × Lacks before.told name)
-    ⊎ ((ending ≡ File TooLong) × IsTooLong before.told name limit before.taken now.taken)
+IsNoFile name limit = IsNotRead name limit (File TooLong)
 
 -- what was read brings the command to the ending, or a read failed, or memory was wanting
 abbrev pub HasReadCause : (Ending → Type 0) → FilesSeen → FilesSeen → Ending → Type 0

@@ -26,7 +26,6 @@ abbrev pub rewrite_ending : Option RewriteRefusal → Ending
 rewrite_ending None = Done
 rewrite_ending (Some (refusal.File why)) = File (bad_file.Refused why)
 rewrite_ending (Some (refusal.Plan why)) = Plan (bad_plan.Misfit why)
-rewrite_ending (Some (refusal.NotYet at)) = File (bad_file.NotYet at)
 rewrite_ending (Some refusal.Memory) = Memory
 
 -- the ending of a plan's text and a file within their limits: the text is looked at first, up to the

@@ -1,19 +1,25 @@
 //! The command line of the program: its words, its commands, its statuses and its notes.
 #![tactic(auto)]
 
+ghost use Rattle.std.specs.Prelude.{string_bytes};
 ghost use Rattle.halo_words.specs.Grammar.{texts};
+ghost use Rattle.halo_cli.specs.Options.{policies_of};
 ghost use Rattle.halo_cli.specs.World.{world};
 ghost use Rattle.halo_cli.specs.Answers.{Answers};
 
+mod generate;
 mod headline;
 mod laws;
 mod limits;
 mod line;
 mod note;
+mod options;
+mod plan;
 mod rewrite;
 mod run;
 mod show;
 
+use group_policy::{Cut, Policy, Rule};
 use halo_outside::{Files, Sink, Source};
 use halo_words::{words_ask_for_one_thing, words_with_a_wrong_one_are_no_line};
 pub use headline::{new_files_are_taken_by_run, new_files_do_the_same};
@@ -23,32 +29,47 @@ use std::alloc::Global;
 /// which it ends.
 ///
 /// `rewrite PLAN FILE` writes the file, changed as the plan says, to `out`. It takes the files that
-/// `exec_image` accepts and the plans that fit them, but for code that isn't rewritten yet, which is that
-/// of heap functions. The input isn't read.
+/// `exec_image` accepts and the plans that fit them. The input isn't read.
 ///
 /// `run [--steps N] FILE` runs the file, as it is, on the flat machine, with the program's input from
 /// `input` and its output to `out`. N is from 0 to 4294967295, and 100000000 where it isn't given. All
 /// memory is taken before the machine starts. The file may be any 32-bit ELF executable for RISC-V that
 /// `elf_read` reads.
 ///
+/// `plan [OPTION].. PROFILE` writes the text of a plan of the profile to `out`. The policy makes groups of the
+/// profile's contexts, and the plan has the rows and sites that tell them from the other contexts. The input isn't
+/// read. The options are these, with what stands where one isn't given:
+///
+/// - `--chunks N`, 0 to 256, 64: how many chunks the heap's area has.
+/// - `--log N`, 0 to 20, 8: a chunk has 2 to the power of N granules of 16 bytes.
+/// - `--fallback N`, 0 to 1048576, 65536: how many granules are outside chunks. The area has at most 1048576 in all.
+/// - `--tolerance N`, 0 to 150, 50: how many thousandths of its density a group may lose by a context.
+/// - `--edge N`, 1 to 17592186044416, 1: the least weight of an edge that counts.
+/// - `--policy NAME`, `density`: which of `policies` makes the groups. Of those with one name the first counts.
+///
 /// `show FILE` writes the summary of a file that `exec_image` accepts to `out`. The input isn't read.
+///
+/// `gen N` writes the file of `rv_build`'s generated program, with N nodes in each of its lists, to `out`. N is from 1
+/// to 30000. No file and no input is read.
 ///
 /// Options stand before, between or behind the operands, each at most once, as `--steps N` or
 /// `--steps=N`. No operand and no value is empty or begins with `-`, and a number has no leading zero.
 ///
-/// One line on `note` says how the command ended, unless `rewrite` or `show` is done. It is tried after a failed
-/// `out`, too.
+/// One line on `note` says how the command ended, unless `rewrite`, `plan`, `show` or `gen` is done. It is tried after
+/// a failed `out`, too.
 ///
 /// The statuses, each with its line and when it comes:
 ///
 /// - 0, no line, or of `run` `exit S after N steps`: the command is done; the program exits with status S at
 ///   step N.
 /// - 64, `halo: usage: word K`: the words are no line. K is the place, from 0, of the first wrong word, or the
-///   number of words.
-/// - 65, `halo: file: TEXT`: the file is longer than 33554432 bytes, isn't accepted, or isn't rewritten yet; of
-///   `run`, it is longer than 34603008 bytes or isn't readable.
+///   number of words. A policy's name that isn't listed and then an area that is too large are found last: the first
+///   at the name, or the number of words where the name is the default, the second at the number of words.
+/// - 65, `halo: file: TEXT`: the file is longer than 33554432 bytes or isn't accepted; of `run`, it is longer than
+///   34603008 bytes or isn't readable.
 /// - 66, `halo: plan: TEXT`: the plan's text is longer than 1048576 bytes or isn't in its grammar, or the plan
-///   doesn't fit the file.
+///   doesn't fit the file; `halo: profile: TEXT`: the profile's text is longer than 33554432 bytes or isn't in its
+///   grammar.
 /// - 67, `halo: read failed`: a file is missing or couldn't be read, or the input couldn't be read.
 /// - 68, `halo: write failed`: `out` or `note` failed.
 /// - 69, `halo: out of memory`: there was no memory.
@@ -63,14 +84,18 @@ pub fn halo<F: Files, I: Source, O: Sink, N: Sink>(
     input: &mut I,
     out: &mut O,
     note: &mut N,
+    policies: &[Policy],
 ) -> u8
-    ensures { Answers (texts words.now)
+    ensures { Answers (policies_of (λ policy. string_bytes policy.name)
+        (λ policy cut answer. ⟦<Rule as Fn(Cut) -> i128>⟧.post policy.rule cut answer) policies.now)
+        (texts words.now)
         (world (F.seen files.old) (I.seen input.old) (O.seen out.old) (N.seen note.old))
         (world (F.seen files.new) (I.seen input.new) (O.seen out.new) (N.seen note.new)) result }
 {
     words_ask_for_one_thing();
     words_with_a_wrong_one_are_no_line();
     laws::texts_and_files_come_to_one_ending();
-    let ending = line::run_line(alloc, words, files, input, out);
+    laws::profiles_come_to_one_ending();
+    let ending = line::run_line(alloc, words, policies, files, input, out);
     note::finish(note, ending)
 }

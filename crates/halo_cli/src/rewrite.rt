@@ -108,7 +108,6 @@ fn new_file(alloc: Global, text: &[u8], file: &[u8]) -> Result<Vec<u8>, Ending>
         Ok(new) => Ok(new),
         Err(RewriteRefusal::File(why)) => Err(Ending::File(BadFile::Refused(why))),
         Err(RewriteRefusal::Plan(why)) => Err(Ending::Plan(BadPlan::Misfit(why))),
-        Err(RewriteRefusal::NotYet(at)) => Err(Ending::File(BadFile::NotYet(at))),
         Err(RewriteRefusal::Memory) => Err(Ending::Memory),
     }
 }

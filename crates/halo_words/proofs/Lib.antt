@@ -12,3 +12,4 @@ pub mod ClapItems
 pub mod ClapLines
 pub mod Parsed
 pub mod Fits
+pub mod Placing

@@ -1,5 +1,6 @@
 -- Lines of a table: what a command's words come to is what the grammar says of the line.
 use Rattle.std.proofs.Common.{◌≡◌, ◌∙◌, ◌+◌, ◌&&◌, ℕ, suc, inl, inr, ⊎_elim, Bool, true, false, List, [], ◌∷◌, ◌++◌, take, drop, slice_get, Option, Some, None, codes, refl, sym, ap, subst, arith, add-one, take-append-drop}
+use Rattle.std.specs.Fmt.{digits}
 use Rattle.std.specs.Str.{bytes_eq}
 use Rattle.std.proofs.lemmas.Slice.Eq.{bytes_eq-Decides}
 use Rattle.std.proofs.lemmas.Bool.{and_parts}
@@ -268,7 +269,7 @@ module _ (table : List Shape) (sound : is_sound_table table ≡ true) where
 -- ---- the table of all commands
 
 pub table_sound : is_sound_table the_table ≡ true
-unfolding the_table number_of
+unfolding the_table number_of digits
 table_sound = refl
 
 shows : Shape

@@ -54,6 +54,15 @@ value_given name (Apart given value ∷ items) = if bytes_eq given name then Som
 value_given name (Joined given value ∷ items) = if bytes_eq given name then Some value else value_given name items
 value_given name (Operand word ∷ items) = value_given name items
 
+-- the place of the word that has the value of an option, in items whose first word stands at a place
+abbrev pub value_place : List ℕ → ℕ → List Item → Option ℕ
+value_place name at [] = None
+value_place name at (Apart given value ∷ items) =
+    if bytes_eq given name then Some (at + 1) else value_place name (at + 2) items
+value_place name at (Joined given value ∷ items) =
+    if bytes_eq given name then Some at else value_place name (at + 1) items
+value_place name at (Operand word ∷ items) = value_place name (at + 1) items
+
 abbrev pub operands_of : List Item → List (List ℕ)
 operands_of [] = []
 operands_of (Apart name value ∷ items) = operands_of items

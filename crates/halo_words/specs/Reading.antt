@@ -1,5 +1,5 @@
 -- How the words behind a command are read, one after the other.
-use Rattle.std.specs.Prelude.{◌≡◌, ℕ, ◌+◌, ◌==◌, ◌&&◌, ◌||◌, ◌⊎◌, Bool, true, false, not, List, [], ◌∷◌, ◌++◌, length, take, slice_get, Option, Some, None, is_some, option_map, codes, if◌then◌else◌}
+use Rattle.std.specs.Prelude.{◌≡◌, ℕ, ◌+◌, ◌==◌, ◌&&◌, ◌||◌, ◌⊎◌, Bool, true, false, not, List, [], ◌∷◌, ◌++◌, length, take, slice_get, Option, Some, None, is_some, option_map, codes, bytes_eq, if◌then◌else◌}
 use Rattle.text_fields.specs.Reading.{after_front, cut_at, ◌>>=◌}
 use Rattle.halo_words.specs.Table.{Choice, Place, Shape, fits, choice_named, choice_of}
 use Rattle.halo_words.specs.Grammar.{is_among}
@@ -31,6 +31,27 @@ named word = named_behind (after_front (codes "--") word)
 abbrev pub names_in : List (List ℕ) → List (List ℕ)
 names_in [] = []
 names_in (word ∷ words) = named word ++ names_in words
+
+-- the place of the value that a word at a place gives to an option: behind the word, or the word's own
+abbrev pub place_cut : List ℕ → List ℕ → Option (List ℕ × List ℕ) → ℕ → Option ℕ
+place_cut name rest None at = if bytes_eq rest name then Some (at + 1) else None
+place_cut name rest (Some parts) at = if bytes_eq parts.0 name then Some at else None
+
+abbrev pub place_behind : List ℕ → Option (List ℕ) → ℕ → Option ℕ
+place_behind name None at = None
+place_behind name (Some rest) at = place_cut name rest (cut_at 61 rest) at
+
+unfoldable pub place_by : List ℕ → List ℕ → ℕ → Option ℕ
+place_by name word at = place_behind name (after_front (codes "--") word) at
+
+-- the place of the first value that words from a place on give to an option
+abbrev pub place_or : Option ℕ → Option ℕ → Option ℕ
+place_or None later = later
+place_or (Some place) later = Some place
+
+abbrev pub first_place : List ℕ → ℕ → List (List ℕ) → Option ℕ
+first_place name at [] = None
+first_place name at (word ∷ words) = place_or (place_by name word at) (first_place name (at + 1) words)
 
 -- a word is the value of the option that waits
 abbrev pub value_met : Choice → Reading → List ℕ → Option Reading

@@ -63,11 +63,43 @@ file_name = record { name = codes "FILE"; kind = Name }
 abbrev pub steps : Choice
 steps = record { name = codes "steps"; kind = Number 0 4294967295; default = codes "100000000" }
 
--- `rewrite PLAN FILE`, `run [--steps N] FILE` and `show FILE`
+abbrev pub profile_name : Place
+profile_name = record { name = codes "PROFILE"; kind = Name }
+
+-- the area: how many chunks, how many granules each has as a power of 2, and how many granules the fallback has
+abbrev pub chunks : Choice
+chunks = record { name = codes "chunks"; kind = Number 0 256; default = codes "64" }
+
+abbrev pub log : Choice
+log = record { name = codes "log"; kind = Number 0 20; default = codes "8" }
+
+abbrev pub fallback : Choice
+fallback = record { name = codes "fallback"; kind = Number 0 1048576; default = codes "65536" }
+
+-- the groups: the thousandths of its density that one may lose, the least weight of a kept edge, and the policy
+abbrev pub tolerance : Choice
+tolerance = record { name = codes "tolerance"; kind = Number 0 150; default = codes "50" }
+
+abbrev pub edge : Choice
+edge = record { name = codes "edge"; kind = Number 1 17592186044416; default = codes "1" }
+
+abbrev pub policy : Choice
+policy = record { name = codes "policy"; kind = Name; default = codes "density" }
+
+abbrev pub plan_choices : List Choice
+plan_choices = chunks ∷ log ∷ fallback ∷ tolerance ∷ edge ∷ policy ∷ []
+
+-- how many nodes a generated program allocates for each of its lists
+abbrev pub node_count : Place
+node_count = record { name = codes "N"; kind = Number 1 30000 }
+
+-- `rewrite PLAN FILE`, `run [--steps N] FILE`, `plan [OPTION]... PROFILE`, `show FILE` and `gen N`
 unfoldable pub the_table : List Shape
 the_table = record { word = codes "rewrite"; choices = []; operands = plan_name ∷ file_name ∷ [] }
     ∷ record { word = codes "run"; choices = steps ∷ []; operands = file_name ∷ [] }
-    ∷ record { word = codes "show"; choices = []; operands = file_name ∷ [] } ∷ []
+    ∷ record { word = codes "plan"; choices = plan_choices; operands = profile_name ∷ [] }
+    ∷ record { word = codes "show"; choices = []; operands = file_name ∷ [] }
+    ∷ record { word = codes "gen"; choices = []; operands = node_count ∷ [] } ∷ []
 
 -- ---- what the types of the program say
 

@@ -53,8 +53,69 @@ const STEPS: Setting = Setting {
     default: "100000000",
 };
 
+const PROFILE: Operand = Operand {
+    name: "PROFILE",
+    kind: Kind::Name,
+};
+
+const CHUNKS: Setting = Setting {
+    name: "chunks",
+    kind: Kind::Number {
+        least: 0,
+        most: 256,
+    },
+    default: "64",
+};
+
+const LOG: Setting = Setting {
+    name: "log",
+    kind: Kind::Number { least: 0, most: 20 },
+    default: "8",
+};
+
+const FALLBACK: Setting = Setting {
+    name: "fallback",
+    kind: Kind::Number {
+        least: 0,
+        most: 1048576,
+    },
+    default: "65536",
+};
+
+const TOLERANCE: Setting = Setting {
+    name: "tolerance",
+    kind: Kind::Number {
+        least: 0,
+        most: 150,
+    },
+    default: "50",
+};
+
+const EDGE: Setting = Setting {
+    name: "edge",
+    kind: Kind::Number {
+        least: 1,
+        most: 17592186044416,
+    },
+    default: "1",
+};
+
+const POLICY: Setting = Setting {
+    name: "policy",
+    kind: Kind::Name,
+    default: "density",
+};
+
+const NODES: Operand = Operand {
+    name: "N",
+    kind: Kind::Number {
+        least: 1,
+        most: 30000,
+    },
+};
+
 /// All commands.
-const FORMS: [Form; 3] = [
+const FORMS: [Form; 5] = [
     Form {
         word: "rewrite",
         settings: &[],
@@ -66,15 +127,25 @@ const FORMS: [Form; 3] = [
         operands: &[FILE],
     },
     Form {
+        word: "plan",
+        settings: &[CHUNKS, LOG, FALLBACK, TOLERANCE, EDGE, POLICY],
+        operands: &[PROFILE],
+    },
+    Form {
         word: "show",
         settings: &[],
         operands: &[FILE],
+    },
+    Form {
+        word: "gen",
+        settings: &[],
+        operands: &[NODES],
     },
 ];
 
 /// The commands are those of the table.
 #[tactic(auto, unfolding(crate::specs::Table::the_table))]
-pub fn all_forms() -> [Form; 3]
+pub fn all_forms() -> [Form; 5]
     ensures { map shape_of result ≡ the_table }
 {
     FORMS

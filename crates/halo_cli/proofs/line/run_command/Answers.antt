@@ -5,21 +5,39 @@ use Rattle.halo_cli.proofs.line.run_command.Goals as goal
 
 pub returns-in-rewrite : goal.returns-in-rewrite
 returns-in-rewrite g c =
-    at_word c.args.values.now (codes "rewrite") _ _ _ (sym c.word.ensures ∙ c.in-rewrite.is)
+    at_word _ c.args.values.now (codes "rewrite") _ _ _ (sym c.word.ensures ∙ c.in-rewrite.is)
     (c.rewrite_file.ensures (g.I.Source.seen c.args.input.now))
 
 pub returns-in-run : goal.returns-in-run
 returns-in-run g c =
-    at_word c.args.values.now (codes "run") _ _ _ (sym c.word.ensures ∙ c.in-run.is) c.run_file.ensures
+    at_word _ c.args.values.now (codes "run") _ _ _ (sym c.word.ensures ∙ c.in-run.is) c.run_file.ensures
+
+pub plan_file-requires-clause-word : goal.plan_file-requires-clause-word
+plan_file-requires-clause-word g c = sym c.word.ensures ∙ c.in-plan.is
+
+pub returns-in-plan : goal.returns-in-plan
+returns-in-plan g c =
+    at_word _ c.args.values.now (codes "plan") _ _ _ (sym c.word.ensures ∙ c.in-plan.is)
+    (c.plan_file.ensures (g.I.Source.seen c.args.input.now))
 
 pub returns-in-show : goal.returns-in-show
 returns-in-show g c =
-    at_word c.args.values.now (codes "show") _ _ _ (sym c.word.ensures ∙ c.in-show.is)
+    at_word _ c.args.values.now (codes "show") _ _ _ (sym c.word.ensures ∙ c.in-show.is)
     (c.show_file.ensures (g.I.Source.seen c.args.input.now))
+
+pub generate_file-requires-clause-word : goal.generate_file-requires-clause-word
+generate_file-requires-clause-word g c = sym c.word.ensures ∙ c.in-gen.is
+
+pub returns-in-gen : goal.returns-in-gen
+returns-in-gen g c =
+    at_word _ c.args.values.now (codes "gen") _ _ _ (sym c.word.ensures ∙ c.in-gen.is)
+    (c.generate_file.ensures (g.F.Files.seen c.args.files.now) (g.I.Source.seen c.args.input.now))
 
 pub unreachable-requires : goal.unreachable-requires
 unreachable-requires g c =
     ⊎_elim (λ is. c.in_default.not-rewrite (c.word.ensures ∙ is))
     (λ rest. ⊎_elim (λ is. c.in_default.not-run (c.word.ensures ∙ is))
-    (λ rest. ⊎_elim (λ is. c.in_default.not-show (c.word.ensures ∙ is)) (λ none. none) rest) rest)
-    (is_command c.requires.0 c.args.values.now c.requires.1)
+    (λ rest. ⊎_elim (λ is. c.in_default.not-plan (c.word.ensures ∙ is))
+    (λ rest. ⊎_elim (λ is. c.in_default.not-show (c.word.ensures ∙ is))
+    (λ rest. ⊎_elim (λ is. c.in_default.not-gen (c.word.ensures ∙ is)) (λ none. none) rest) rest) rest) rest)
+    (is_command c.requires.asks.0 c.args.values.now c.requires.asks.1)

@@ -4,4 +4,4 @@ use Rattle.halo_cli.proofs.line.run_line.Goals as goal
 
 pub returns-in-Err : goal.returns-in-Err
 returns-in-Err g c =
-    rw c.stopped.ensures (stop_ends (texts c.args.words.now) c.in-Err.stop _ c.in-Err.ensures.stops)
+    rw c.stopped.ensures (stop_ends _ (texts c.args.words.now) c.in-Err.stop _ c.in-Err.ensures.stops)
