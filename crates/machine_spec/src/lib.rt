@@ -6,7 +6,7 @@
 #[derive(Clone, Copy, Debug, PartialEq, Eq)]
 pub enum FaultKind {
     /// A load, a store or the buffer of a system call is not aligned, not in memory (on the symbol
-    /// machine: not plain), or can't be stored to where it stores.
+    /// machine: neither plain nor in a living block), or can't be stored to where it stores.
     F1,
     /// A branch is undecided.
     F2,
@@ -17,7 +17,7 @@ pub enum FaultKind {
     /// A heap function has a bad argument.
     F5,
     /// Nothing can be fetched at the pc (on the symbol machine: no code word, or the second word of a
-    /// call that is one step).
+    /// call that is one step or of a heap function).
     F6,
 }
 

@@ -11,7 +11,8 @@ use Rattle.plan_core.specs.Grammar.{is_site, is_row, Within}
 pub count-append : (p : TextLine → Bool) (xs ys : List TextLine) → count_by p (xs ++ ys) ≡ count_by p xs + count_by p ys
 count-append p xs ys = sum_by-append (λ x. cond (p x) 1 0) xs ys
 
-pub count-cons : (p : TextLine → Bool) (x : TextLine) (xs : List TextLine) → count_by p (x ∷ xs) ≡ cond (p x) 1 0 + count_by p xs
+pub count-cons : (p : TextLine → Bool) (x : TextLine) (xs : List TextLine)
+    → count_by p (x ∷ xs) ≡ cond (p x) 1 0 + count_by p xs
 count-cons p x xs = omega (arith, count-append p (x ∷ []) xs)
 
 pub sites_in_sites : (ss : List PlanLine) → count_by is_site (map Site ss) ≡ length ss

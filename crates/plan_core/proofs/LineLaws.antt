@@ -19,7 +19,8 @@ pub record Fields : Type 0 where
   pub front : (front bytes rest : List ℕ) → (after_front front bytes ≡ Some rest) ↔ (bytes ≡ front ++ rest)
   pub number : (end max n : ℕ) (bytes rest : List ℕ) → end < 48 → max < 2 ^ 59
       → (number_at end max bytes ≡ Some (n, rest)) ↔ ((n ≤ max) × (bytes ≡ decimal n ++ (end ∷ rest)))
-  pub hexadecimal : (n : ℕ) (bytes rest : List ℕ) → (hex_at bytes ≡ Some (n, rest)) ↔ ((n < 2 ^ 32) × (bytes ≡ hex8 n ++ rest))
+  pub hexadecimal : (n : ℕ) (bytes rest : List ℕ)
+      → (hex_at bytes ≡ Some (n, rest)) ↔ ((n < 2 ^ 32) × (bytes ≡ hex8 n ++ rest))
 
 -- and so is a line
 abbrev pub ReadsLines : Type 0
@@ -43,7 +44,8 @@ front_fails fields f g front bytes differs = at (after_front (f ∷ front) (g �
         let same : g ≡ f = cc in
         absurd (grind (arith, nat_tests))
 
-number_takes : Fields → (end max n : ℕ) (bytes rest : List ℕ) → end < 48 → max < 2 ^ 59 → number_at end max bytes ≡ Some (n, rest)
+number_takes : Fields → (end max n : ℕ) (bytes rest : List ℕ) → end < 48 → max < 2 ^ 59
+    → number_at end max bytes ≡ Some (n, rest)
     → (n ≤ max) × (bytes ≡ decimal n ++ (end ∷ rest))
 number_takes fields end max n bytes rest low small found = (fields.number end max n bytes rest low small).0 found
 
@@ -52,14 +54,16 @@ number_again : Fields → (end max n : ℕ) (rest : List ℕ) → end < 48 → n
 number_again fields end max n rest low fits small =
     (fields.number end max n (decimal n ++ (end ∷ rest)) rest low small).1 (fits, refl)
 
-hex_takes : Fields → (bytes : List ℕ) (n : ℕ) (rest : List ℕ) → hex_at bytes ≡ Some (n, rest) → (n < 2 ^ 32) × (bytes ≡ hex8 n ++ rest)
+hex_takes : Fields → (bytes : List ℕ) (n : ℕ) (rest : List ℕ) → hex_at bytes ≡ Some (n, rest)
+    → (n < 2 ^ 32) × (bytes ≡ hex8 n ++ rest)
 hex_takes fields bytes n rest found = (fields.hexadecimal n bytes rest).0 found
 
 hex_again : Fields → (n : ℕ) (rest : List ℕ) → n < 2 ^ 32 → hex_at (hex8 n ++ rest) ≡ Some (n, rest)
 hex_again fields n rest small = (fields.hexadecimal n (hex8 n ++ rest) rest).1 (small, refl)
 
 -- both steps found something, if the two together did
-bound : {A B P : Type 0} (r : Option A) (f : A → Option B) (y : B) → (r >>= f) ≡ Some y → ((x : A) → r ≡ Some x → f x ≡ Some y → P) → P
+bound : {A B P : Type 0} (r : Option A) (f : A → Option B) (y : B) → (r >>= f) ≡ Some y
+    → ((x : A) → r ≡ Some x → f x ≡ Some y → P) → P
 bound r f y e k = option_and_then_some f r y e k
 
 -- each line with a rest behind it, as a front and its fields in turn
@@ -71,20 +75,26 @@ end_shape : (rest : List ℕ) → line_text End ++ rest ≡ (codes "end" ++ (10 
 unfolding line_text
 end_shape rest = refl
 
-size_shape : (a : Area) (rest : List ℕ) → line_text (Size a) ++ rest ≡ codes "area " ++ (decimal a.chunks ++ (32 ∷ (decimal a.log_chunk ++ (32 ∷ (decimal a.fallback ++ (10 ∷ rest))))))
+size_shape : (a : Area) (rest : List ℕ)
+    → line_text (Size a) ++ rest ≡ codes "area "
+    ++ (decimal a.chunks ++ (32 ∷ (decimal a.log_chunk ++ (32 ∷ (decimal a.fallback ++ (10 ∷ rest))))))
 unfolding line_text
 size_shape a rest = simp append_assoc
 
-site_shape : (s : PlanLine) (rest : List ℕ) → line_text (Site s) ++ rest ≡ codes "site " ++ (decimal s.bit ++ (32 ∷ (hex8 s.addr ++ (10 ∷ rest))))
+site_shape : (s : PlanLine) (rest : List ℕ)
+    → line_text (Site s) ++ rest ≡ codes "site " ++ (decimal s.bit ++ (32 ∷ (hex8 s.addr ++ (10 ∷ rest))))
 unfolding line_text
 site_shape s rest = simp append_assoc
 
-row_shape : (r : Row) (rest : List ℕ) → line_text (Mask r) ++ rest ≡ codes "row " ++ (decimal r.group ++ (32 ∷ (hex8 r.mask ++ (10 ∷ rest))))
+row_shape : (r : Row) (rest : List ℕ)
+    → line_text (Mask r) ++ rest ≡ codes "row " ++ (decimal r.group ++ (32 ∷ (hex8 r.mask ++ (10 ∷ rest))))
 unfolding line_text
 row_shape r rest = simp append_assoc
 
 -- which choice found something
-chosen : {A P : Type 0} (o : Option (List ℕ)) (fields : List ℕ → Option A) (other : Option A) (y : A) → or_else o fields other ≡ Some y → ((rest : List ℕ) → o ≡ Some rest → fields rest ≡ Some y → P) → (other ≡ Some y → P) → P
+chosen : {A P : Type 0} (o : Option (List ℕ)) (fields : List ℕ → Option A) (other : Option A) (y : A)
+    → or_else o fields other ≡ Some y → ((rest : List ℕ) → o ≡ Some rest → fields rest ≡ Some y → P)
+    → (other ≡ Some y → P) → P
 chosen None fields other y e here there = there e
 chosen (Some rest) fields other y e here there = here rest refl e
 
@@ -92,7 +102,8 @@ chosen (Some rest) fields other y e here there = here rest refl e
 abbrev Takes : List ℕ → TextLine → List ℕ → Type 0
 Takes text l rest = LineFits l × (text ≡ line_text l ++ rest)
 
-site_takes : Fields → (text fields : List ℕ) (l : TextLine) (rest : List ℕ) → after_front (codes "site ") text ≡ Some fields → site_at fields ≡ Some (l, rest) → Takes text l rest
+site_takes : Fields → (text fields : List ℕ) (l : TextLine) (rest : List ℕ)
+    → after_front (codes "site ") text ≡ Some fields → site_at fields ≡ Some (l, rest) → Takes text l rest
 unfolding site_at
 site_takes laws text fields l rest front found =
     bound (number_at 32 255 fields) _ _ found (λ bit e1 t1.
@@ -105,10 +116,12 @@ site_takes laws text fields l rest front found =
     let newline = front_takes laws (10 ∷ []) addr.1 tail e3 in
     let word = front_takes laws (codes "site ") text fields front in
     let P : TextLine → Type 0 = λ k. Takes text k rest in
-    let text_is : text ≡ line_text (Site s) ++ rest = rw (site_shape s rest) (cc (word, number.1, hex.1, newline, both.1)) in
+    let text_is : text ≡ line_text (Site s) ++ rest =
+    rw (site_shape s rest) (cc (word, number.1, hex.1, newline, both.1)) in
     subst P both.0 ((number.0, hex.0), text_is))))
 
-row_takes : Fields → (text fields : List ℕ) (l : TextLine) (rest : List ℕ) → after_front (codes "row ") text ≡ Some fields → row_at fields ≡ Some (l, rest) → Takes text l rest
+row_takes : Fields → (text fields : List ℕ) (l : TextLine) (rest : List ℕ)
+    → after_front (codes "row ") text ≡ Some fields → row_at fields ≡ Some (l, rest) → Takes text l rest
 unfolding row_at
 row_takes laws text fields l rest front found =
     bound (number_at 32 255 fields) _ _ found (λ group e1 t1.
@@ -121,10 +134,12 @@ row_takes laws text fields l rest front found =
     let newline = front_takes laws (10 ∷ []) mask.1 tail e3 in
     let word = front_takes laws (codes "row ") text fields front in
     let P : TextLine → Type 0 = λ k. Takes text k rest in
-    let text_is : text ≡ line_text (Mask r) ++ rest = rw (row_shape r rest) (cc (word, number.1, hex.1, newline, both.1)) in
+    let text_is : text ≡ line_text (Mask r) ++ rest =
+    rw (row_shape r rest) (cc (word, number.1, hex.1, newline, both.1)) in
     subst P both.0 ((number.0, hex.0), text_is))))
 
-area_takes : Fields → (text fields : List ℕ) (l : TextLine) (rest : List ℕ) → after_front (codes "area ") text ≡ Some fields → area_at fields ≡ Some (l, rest) → Takes text l rest
+area_takes : Fields → (text fields : List ℕ) (l : TextLine) (rest : List ℕ)
+    → after_front (codes "area ") text ≡ Some fields → area_at fields ≡ Some (l, rest) → Takes text l rest
 unfolding area_at
 area_takes laws text fields l rest front found =
     bound (number_at 32 4294967295 fields) _ _ found (λ chunks e1 t1.
@@ -137,12 +152,14 @@ area_takes laws text fields l rest front found =
     let third = number_takes laws 10 4294967295 fallback.0 log.1 fallback.1 (omega arith) (omega arith) e3 in
     let word = front_takes laws (codes "area ") text fields front in
     let P : TextLine → Type 0 = λ k. Takes text k rest in
-    let text_is : text ≡ line_text (Size a) ++ rest = rw (size_shape a rest) (cc (word, first.1, second.1, third.1, both.1)) in
+    let text_is : text ≡ line_text (Size a) ++ rest =
+    rw (size_shape a rest) (cc (word, first.1, second.1, third.1, both.1)) in
     let low : chunks.0 < 2 ^ 32 = omega (arith, first.0) in
     let high : fallback.0 < 2 ^ 32 = omega (arith, third.0) in
     subst P both.0 ((low, second.0, high), text_is))))
 
-word_takes : Fields → (text : List ℕ) (l : TextLine) (rest : List ℕ) → word_line_at text ≡ Some (l, rest) → Takes text l rest
+word_takes : Fields → (text : List ℕ) (l : TextLine) (rest : List ℕ) → word_line_at text ≡ Some (l, rest)
+    → Takes text l rest
 unfolding word_line_at
 word_takes laws text l rest found =
     let P : TextLine → Type 0 = λ k. Takes text k rest in
@@ -160,7 +177,8 @@ word_takes laws text l rest found =
     subst P both.0 (tt, text_is))
     (λ none. absurd cc))
 
-pub line_takes : Fields → (text : List ℕ) (l : TextLine) (rest : List ℕ) → line_at text ≡ Some (l, rest) → LineFits l × (text ≡ line_text l ++ rest)
+pub line_takes : Fields → (text : List ℕ) (l : TextLine) (rest : List ℕ) → line_at text ≡ Some (l, rest)
+    → LineFits l × (text ≡ line_text l ++ rest)
 unfolding line_at
 line_takes laws text l rest found =
     chosen _ _ _ _ found (λ r front e. site_takes laws text r l rest front e)
@@ -229,7 +247,8 @@ pub reads_lines : Fields → ReadsLines
 reads_lines laws text l rest = (line_takes laws text l rest, λ is. rw (is.1) (line_again laws l rest is.0))
 
 -- two lines at one place are one line
-pub one_line : ReadsLines → (k l : TextLine) (x y : List ℕ) → LineFits k → LineFits l → line_text k ++ x ≡ line_text l ++ y → (k ≡ l) × (x ≡ y)
+pub one_line : ReadsLines → (k l : TextLine) (x y : List ℕ) → LineFits k → LineFits l
+    → line_text k ++ x ≡ line_text l ++ y → (k ≡ l) × (x ≡ y)
 one_line reads k l x y k_fits l_fits same =
     let here : line_at (line_text k ++ x) ≡ Some (k, x) = (reads (line_text k ++ x) k x).1 (k_fits, refl) in
     let there : line_at (line_text l ++ y) ≡ Some (l, y) = (reads (line_text l ++ y) l y).1 (l_fits, refl) in

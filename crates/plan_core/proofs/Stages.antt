@@ -36,7 +36,8 @@ pub record Adds (l : TextLine) (stage : Stage) (p : Plan) (next : Stage) : Type 
   pub lines : so_far next (added l p) ≡ so_far stage p ++ (l ∷ [])
   pub tidy : Tidy next (added l p)
 
-pub adds_at : (stage : Stage) (l : TextLine) (p : Plan) → Tidy stage p → MatchOption (moves stage l) (Unit {0}) (Adds l stage p)
+pub adds_at : (stage : Stage) (l : TextLine) (p : Plan) → Tidy stage p
+    → MatchOption (moves stage l) (Unit {0}) (Adds l stage p)
 adds_at Start Head p t = record { lines = refl; tidy = t }
 adds_at Headed (Size a) p t = record { lines = rw (t.0) refl; tidy = t.1 }
 adds_at Sites (Site s) p t = record { lines = rw (map-append Site p.sites (s ∷ [])) refl; tidy = t }
@@ -51,11 +52,14 @@ abbrev pub run : Stage → List TextLine → Option Stage
 run stage [] = Some stage
 run stage (l ∷ ls) = moves stage l >>= (λ next. run next ls)
 
-run_on : (o : Option Stage) (xs ys : List TextLine) → ((stage : Stage) → run stage (xs ++ ys) ≡ (run stage xs >>= (λ next. run next ys))) → (o >>= (λ next. run next (xs ++ ys))) ≡ ((o >>= (λ next. run next xs)) >>= (λ next. run next ys))
+run_on : (o : Option Stage) (xs ys : List TextLine)
+    → ((stage : Stage) → run stage (xs ++ ys) ≡ (run stage xs >>= (λ next. run next ys)))
+    → (o >>= (λ next. run next (xs ++ ys))) ≡ ((o >>= (λ next. run next xs)) >>= (λ next. run next ys))
 run_on None xs ys later = refl
 run_on (Some stage) xs ys later = later stage
 
-pub run-append : (stage : Stage) (xs ys : List TextLine) → run stage (xs ++ ys) ≡ (run stage xs >>= (λ next. run next ys))
+pub run-append : (stage : Stage) (xs ys : List TextLine)
+    → run stage (xs ++ ys) ≡ (run stage xs >>= (λ next. run next ys))
 run-append stage [] ys = refl
 run-append stage (x ∷ xs) ys = run_on (moves stage x) xs ys (λ next. run-append next xs ys)
 
@@ -73,11 +77,14 @@ run_tail (r ∷ rs) = run_rows rs
 
 pub run_whole : (p : Plan) → run Start (lines_of p) ≡ Some Ended
 run_whole p =
-    let joined : map Site p.sites ++ map Mask p.rows ++ (End ∷ []) ≡ map Site p.sites ++ (map Mask p.rows ++ (End ∷ [])) = append_assoc (map Site p.sites) (map Mask p.rows) (End ∷ []) in
+    let joined : map Site p.sites ++ map Mask p.rows ++ (End ∷ [])
+    ≡ map Site p.sites ++ (map Mask p.rows ++ (End ∷ [])) =
+    append_assoc (map Site p.sites) (map Mask p.rows) (End ∷ []) in
     rw (joined, run_sites p.sites (map Mask p.rows ++ (End ∷ []))) (run_tail p.rows)
 
 -- a line that may not come continues no plan
-pub no_plan_goes_on : (lines : List TextLine) (l : TextLine) (stage : Stage) → run Start lines ≡ Some stage → moves stage l ≡ None → Begins (lines ++ (l ∷ [])) → ⊥
+pub no_plan_goes_on : (lines : List TextLine) (l : TextLine) (stage : Stage) → run Start lines ≡ Some stage
+    → moves stage l ≡ None → Begins (lines ++ (l ∷ [])) → ⊥
 no_plan_goes_on lines l stage ran blocked (p, more, fits, is) =
     let whole = run_whole p in
     let parts = run-append Start (lines ++ (l ∷ [])) more in
@@ -109,7 +116,8 @@ begins Rows p fits = (p, End ∷ [], fits, refl)
 begins Ended p fits = (p, [], fits, sym (append-nil (lines_of p)))
 
 -- how many sites and rows have come
-pub counts : (stage : Stage) (p : Plan) → Tidy stage p → (count_by is_site (so_far stage p) ≡ length p.sites) × (count_by is_row (so_far stage p) ≡ length p.rows)
+pub counts : (stage : Stage) (p : Plan) → Tidy stage p
+    → (count_by is_site (so_far stage p) ≡ length p.sites) × (count_by is_row (so_far stage p) ≡ length p.rows)
 counts Start p t = (rw (t.0) refl, rw (t.1) refl)
 counts Headed p t = (rw (t.0) refl, rw (t.1) refl)
 counts Sites p t = (
@@ -117,12 +125,38 @@ counts Sites p t = (
   rw t (omega (arith, count-append is_row (Head ∷ Size p.area ∷ []) (map Site p.sites), rows_in_sites p.sites)),
 )
 counts Rows p t = (
-  omega (arith, count-append is_site (Head ∷ Size p.area ∷ []) (map Site p.sites ++ map Mask p.rows), count-append is_site (map Site p.sites) (map Mask p.rows), sites_in_sites p.sites, sites_in_rows p.rows),
-  omega (arith, count-append is_row (Head ∷ Size p.area ∷ []) (map Site p.sites ++ map Mask p.rows), count-append is_row (map Site p.sites) (map Mask p.rows), rows_in_sites p.sites, rows_in_rows p.rows),
+  omega (
+    arith,
+    count-append is_site (Head ∷ Size p.area ∷ []) (map Site p.sites ++ map Mask p.rows),
+    count-append is_site (map Site p.sites) (map Mask p.rows),
+    sites_in_sites p.sites,
+    sites_in_rows p.rows,
+  ),
+  omega (
+    arith,
+    count-append is_row (Head ∷ Size p.area ∷ []) (map Site p.sites ++ map Mask p.rows),
+    count-append is_row (map Site p.sites) (map Mask p.rows),
+    rows_in_sites p.sites,
+    rows_in_rows p.rows,
+  ),
 )
 counts Ended p t = (
-  omega (arith, count-append is_site (Head ∷ Size p.area ∷ []) (map Site p.sites ++ map Mask p.rows ++ (End ∷ [])), count-append is_site (map Site p.sites ++ map Mask p.rows) (End ∷ []), count-append is_site (map Site p.sites) (map Mask p.rows), sites_in_sites p.sites, sites_in_rows p.rows),
-  omega (arith, count-append is_row (Head ∷ Size p.area ∷ []) (map Site p.sites ++ map Mask p.rows ++ (End ∷ [])), count-append is_row (map Site p.sites ++ map Mask p.rows) (End ∷ []), count-append is_row (map Site p.sites) (map Mask p.rows), rows_in_sites p.sites, rows_in_rows p.rows),
+  omega (
+    arith,
+    count-append is_site (Head ∷ Size p.area ∷ []) (map Site p.sites ++ map Mask p.rows ++ (End ∷ [])),
+    count-append is_site (map Site p.sites ++ map Mask p.rows) (End ∷ []),
+    count-append is_site (map Site p.sites) (map Mask p.rows),
+    sites_in_sites p.sites,
+    sites_in_rows p.rows,
+  ),
+  omega (
+    arith,
+    count-append is_row (Head ∷ Size p.area ∷ []) (map Site p.sites ++ map Mask p.rows ++ (End ∷ [])),
+    count-append is_row (map Site p.sites ++ map Mask p.rows) (End ∷ []),
+    count-append is_row (map Site p.sites) (map Mask p.rows),
+    rows_in_sites p.sites,
+    rows_in_rows p.rows,
+  ),
 )
 
 -- at most this many lines have come
@@ -130,8 +164,19 @@ pub few_lines : (stage : Stage) (p : Plan) → length (so_far stage p) ≤ lengt
 few_lines Start p = omega arith
 few_lines Headed p = omega arith
 few_lines Sites p = omega (arith, length-map p.sites Site)
-few_lines Rows p = omega (arith, length-append (map Site p.sites) (map Mask p.rows), length-map p.sites Site, length-map p.rows Mask)
-few_lines Ended p = omega (arith, length-append (map Site p.sites ++ map Mask p.rows) (End ∷ []), length-append (map Site p.sites) (map Mask p.rows), length-map p.sites Site, length-map p.rows Mask)
+few_lines Rows p = omega (
+  arith,
+  length-append (map Site p.sites) (map Mask p.rows),
+  length-map p.sites Site,
+  length-map p.rows Mask,
+)
+few_lines Ended p = omega (
+  arith,
+  length-append (map Site p.sites ++ map Mask p.rows) (End ∷ []),
+  length-append (map Site p.sites) (map Mask p.rows),
+  length-map p.sites Site,
+  length-map p.rows Mask,
+)
 
 -- lines that fit, one by one
 abbrev pub LinesFit : List TextLine → Type 0
@@ -160,8 +205,15 @@ rows_fit (r ∷ rs) fit = (fit 0 r (omega arith), rows_fit rs (λ k d below. fit
 
 -- the lines of a plan whose fields fit
 pub plan_fits : (p : Plan) → FieldsFit p → LinesFit (lines_of p)
-plan_fits p fits =
-    (tt, (fits.area, fit-append (map Site p.sites ++ map Mask p.rows) (End ∷ []) (fit-append (map Site p.sites) (map Mask p.rows) (sites_fit p.sites fits.sites) (rows_fit p.rows fits.rows)) (tt, tt)))
+plan_fits p fits = (
+  tt,
+  (
+    fits.area,
+    fit-append (map Site p.sites ++ map Mask p.rows) (End ∷ [])
+        (fit-append (map Site p.sites) (map Mask p.rows) (sites_fit p.sites fits.sites) (rows_fit p.rows fits.rows))
+        (tt, tt),
+  ),
+)
 
 -- lines that begin a plan fit
 pub begun_fits : (lines : List TextLine) → Begins lines → LinesFit lines

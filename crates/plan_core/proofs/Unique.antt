@@ -23,11 +23,13 @@ record Longer (a b : List TextLine) (x y : List ℕ) : Type 0 where
   lines : b ≡ a ++ more
   texts : x ≡ text_of more ++ y
 
-longer_by : (l : TextLine) (a b : List TextLine) (m : TextLine) (x y : List ℕ) → l ≡ m → Longer a b x y → Longer (l ∷ a) (m ∷ b) x y
+longer_by : (l : TextLine) (a b : List TextLine) (m : TextLine) (x y : List ℕ) → l ≡ m → Longer a b x y
+    → Longer (l ∷ a) (m ∷ b) x y
 longer_by l a b m x y same longer = record { more = longer.more; lines = cc (same, longer.lines); texts = longer.texts }
 
 -- of two lists of lines at one place, one goes on after the other
-compare : ReadsLines → (a b : List TextLine) (x y : List ℕ) → LinesFit a → LinesFit b → text_of a ++ x ≡ text_of b ++ y → Longer a b x y ⊎ Longer b a y x
+compare : ReadsLines → (a b : List TextLine) (x y : List ℕ) → LinesFit a → LinesFit b → text_of a ++ x ≡ text_of b ++ y
+    → Longer a b x y ⊎ Longer b a y x
 compare reads [] b x y a_fit b_fit same = inl (record { more = b; lines = refl; texts = same })
 compare reads (l ∷ a) [] x y a_fit b_fit same = inr (record { more = l ∷ a; lines = refl; texts = sym same })
 compare reads (l ∷ a) (m ∷ b) x y a_fit b_fit same =
@@ -35,13 +37,19 @@ compare reads (l ∷ a) (m ∷ b) x y a_fit b_fit same =
     let right = append_assoc (line_text m) (text_of b) y in
     let apart : line_text l ++ (text_of a ++ x) ≡ line_text m ++ (text_of b ++ y) = cc in
     let one = one_line reads l m (text_of a ++ x) (text_of b ++ y) a_fit.0 b_fit.0 apart in
-    elim (compare reads a b x y a_fit.1 b_fit.1 one.1) [ inl longer ↦ inl (longer_by l a b m x y one.0 longer) | inr shorter ↦ inr (longer_by m b a l y x (sym one.0) shorter) ]
+    elim (compare reads a b x y a_fit.1 b_fit.1 one.1) [
+      | inl longer ↦ inl (longer_by l a b m x y one.0 longer)
+      | inr shorter ↦ inr
+          (longer_by m b a l y x (sym one.0) shorter)
+    ]
 
 begins_front : (xs ys : List TextLine) → Begins (xs ++ ys) → Begins xs
 begins_front xs ys (p, more, fits, is) = (p, ys ++ more, fits, rw (is, append_assoc) refl)
 
 -- admitted lines that go on where no line goes on are none
-ends_at : (lines : List TextLine) (rest : List ℕ) (more : List TextLine) (y : List ℕ) → ((l : TextLine) (after : List ℕ) → rest ≡ line_text l ++ after → Begins (lines ++ (l ∷ [])) → ⊥) → Begins (lines ++ more) → rest ≡ text_of more ++ y → more ≡ []
+ends_at : (lines : List TextLine) (rest : List ℕ) (more : List TextLine) (y : List ℕ)
+    → ((l : TextLine) (after : List ℕ) → rest ≡ line_text l ++ after → Begins (lines ++ (l ∷ [])) → ⊥)
+    → Begins (lines ++ more) → rest ≡ text_of more ++ y → more ≡ []
 ends_at lines rest [] y none goes text = refl
 ends_at lines rest (l ∷ more) y none goes text =
     let apart : rest ≡ line_text l ++ (text_of more ++ y) = rw text (append_assoc (line_text l) (text_of more) y) in
@@ -50,10 +58,12 @@ ends_at lines rest (l ∷ more) y none goes text =
     absurd (none l (text_of more ++ y) apart (begins_front (lines ++ (l ∷ [])) more (subst P (sym joined) goes)))
 
 -- no admitted lines go on after those before the first bad line
-no_longer : (text : List ℕ) (n : ℕ) (bad : FirstBad text n) (b : List TextLine) (y : List ℕ) → Begins b → Longer bad.lines b bad.rest y → b ≡ bad.lines
+no_longer : (text : List ℕ) (n : ℕ) (bad : FirstBad text n) (b : List TextLine) (y : List ℕ) → Begins b
+    → Longer bad.lines b bad.rest y → b ≡ bad.lines
 no_longer text n bad b y goes longer =
     let P : List TextLine → Type 0 = Begins in
-    let none : longer.more ≡ [] = ends_at bad.lines bad.rest longer.more y bad.no_next (subst P longer.lines goes) longer.texts in
+    let none : longer.more ≡ [] = ends_at bad.lines bad.rest longer.more y bad.no_next (subst P longer.lines goes)
+    longer.texts in
     rw (longer.lines, none) (append-nil bad.lines)
 
 over_front : (text : List ℕ) (n : ℕ) (o : FirstOver text n) → text ≡ text_of (o.lines ++ (o.over ∷ [])) ++ o.rest
@@ -66,7 +76,8 @@ over_front text n o =
 pub one_bad : ReadsLines → (text : List ℕ) (n m : ℕ) → FirstBad text n → FirstBad text m → n ≡ m
 one_bad reads text n m one other =
     let same : text_of one.lines ++ one.rest ≡ text_of other.lines ++ other.rest = cc (one.front, other.front) in
-    elim (compare reads one.lines other.lines one.rest other.rest (begun_fits one.lines one.admitted) (begun_fits other.lines other.admitted) same) [
+    elim (compare reads one.lines other.lines one.rest other.rest (begun_fits one.lines one.admitted)
+    (begun_fits other.lines other.admitted) same) [
       | inl longer ↦ cc (no_longer text n one other.lines other.rest other.admitted longer, one.number, other.number)
       | inr longer ↦ cc (no_longer text m other one.lines one.rest one.admitted longer, one.number, other.number)
     ]
@@ -77,13 +88,15 @@ not_both reads text n m bad over =
     let b : List TextLine = over.lines ++ (over.over ∷ []) in
     let same : text_of bad.lines ++ bad.rest ≡ text_of b ++ over.rest = cc (bad.front, over_front text m over) in
     let P : List TextLine → Type 0 = Within in
-    elim (compare reads bad.lines b bad.rest over.rest (begun_fits bad.lines bad.admitted) (begun_fits b over.admitted) same) [
+    elim (compare reads bad.lines b bad.rest over.rest (begun_fits bad.lines bad.admitted) (begun_fits b over.admitted)
+    same) [
       | inl longer ↦ over.too_many (subst P (sym (no_longer text n bad b over.rest over.admitted longer)) bad.within)
       | inr shorter ↦ over.too_many (front_within b shorter.more (subst P shorter.lines bad.within))
     ]
 
 -- a list that ends one later than another's front has that front
-front_of : (xs ys : List TextLine) (x y : TextLine) (more : List TextLine) → xs ++ (x ∷ []) ≡ ys ++ (y ∷ more) → (zs : List TextLine) × (xs ≡ ys ++ zs)
+front_of : (xs ys : List TextLine) (x y : TextLine) (more : List TextLine) → xs ++ (x ∷ []) ≡ ys ++ (y ∷ more)
+    → (zs : List TextLine) × (xs ≡ ys ++ zs)
 front_of xs [] x y more same = (xs, refl)
 front_of [] (z ∷ []) x y more same = absurd cc
 front_of [] (z ∷ w ∷ ys) x y more same = absurd cc
@@ -94,9 +107,11 @@ front_of (v ∷ xs) (z ∷ ys) x y more same =
     (zs, cc)
 
 -- lines that go on after one too many are one too many before
-over_by : (text : List ℕ) (n m : ℕ) (one : FirstOver text n) (other : FirstOver text m) (more : List TextLine) → other.lines ++ (other.over ∷ []) ≡ (one.lines ++ (one.over ∷ [])) ++ more → n ≡ m
+over_by : (text : List ℕ) (n m : ℕ) (one : FirstOver text n) (other : FirstOver text m) (more : List TextLine)
+    → other.lines ++ (other.over ∷ []) ≡ (one.lines ++ (one.over ∷ [])) ++ more → n ≡ m
 over_by text n m one other [] same =
-    let plain : other.lines ++ (other.over ∷ []) ≡ one.lines ++ (one.over ∷ []) = rw (append-nil (one.lines ++ (one.over ∷ []))) at same in
+    let plain : other.lines ++ (other.over ∷ []) ≡ one.lines ++ (one.over ∷ []) =
+    rw (append-nil (one.lines ++ (one.over ∷ []))) at same in
     let lengths : length (other.lines ++ (other.over ∷ [])) ≡ length (one.lines ++ (one.over ∷ [])) = ap length plain in
     omega (arith, length_push other.lines other.over, length_push one.lines one.over, lengths, one.number, other.number)
 over_by text n m one other (l ∷ more) same =
@@ -130,8 +145,24 @@ whole_begins p is = (p, [], is.fits, sym (append-nil (lines_of p)))
 
 whole_within : (p : Plan) → IsPlan p → Within (lines_of p)
 whole_within p is = (
-  omega (arith, count-append is_site (Head ∷ Size p.area ∷ []) (map Site p.sites ++ map Mask p.rows ++ (End ∷ [])), count-append is_site (map Site p.sites ++ map Mask p.rows) (End ∷ []), count-append is_site (map Site p.sites) (map Mask p.rows), sites_in_sites p.sites, sites_in_rows p.rows, is.few_sites),
-  omega (arith, count-append is_row (Head ∷ Size p.area ∷ []) (map Site p.sites ++ map Mask p.rows ++ (End ∷ [])), count-append is_row (map Site p.sites ++ map Mask p.rows) (End ∷ []), count-append is_row (map Site p.sites) (map Mask p.rows), rows_in_sites p.sites, rows_in_rows p.rows, is.few_rows),
+  omega (
+    arith,
+    count-append is_site (Head ∷ Size p.area ∷ []) (map Site p.sites ++ map Mask p.rows ++ (End ∷ [])),
+    count-append is_site (map Site p.sites ++ map Mask p.rows) (End ∷ []),
+    count-append is_site (map Site p.sites) (map Mask p.rows),
+    sites_in_sites p.sites,
+    sites_in_rows p.rows,
+    is.few_sites,
+  ),
+  omega (
+    arith,
+    count-append is_row (Head ∷ Size p.area ∷ []) (map Site p.sites ++ map Mask p.rows ++ (End ∷ [])),
+    count-append is_row (map Site p.sites ++ map Mask p.rows) (End ∷ []),
+    count-append is_row (map Site p.sites) (map Mask p.rows),
+    rows_in_sites p.sites,
+    rows_in_rows p.rows,
+    is.few_rows,
+  ),
 )
 
 whole_text : (p : Plan) (text : List ℕ) → text ≡ plan_text p → text ≡ text_of (lines_of p) ++ []
@@ -141,10 +172,12 @@ whole_text p text same = rw (append-nil (plan_text p)) same
 pub not_bad : ReadsLines → (p : Plan) (text : List ℕ) (n : ℕ) → IsPlan p → text ≡ plan_text p → FirstBad text n → ⊥
 not_bad reads p text n is text_is bad =
     let same : text_of bad.lines ++ bad.rest ≡ text_of (lines_of p) ++ [] = cc (bad.front, whole_text p text text_is) in
-    elim (compare reads bad.lines (lines_of p) bad.rest [] (begun_fits bad.lines bad.admitted) (plan_fits p is.fits) same) [
+    elim (compare reads bad.lines (lines_of p) bad.rest [] (begun_fits bad.lines bad.admitted) (plan_fits p is.fits)
+    same) [
       | inl longer ↦
           (let all : lines_of p ≡ bad.lines = no_longer text n bad (lines_of p) [] (whole_begins p is) longer in
-          let none : longer.more ≡ [] = ends_at bad.lines bad.rest longer.more [] bad.no_next (let P : List TextLine → Type 0 = Begins in subst P longer.lines (whole_begins p is)) longer.texts in
+          let none : longer.more ≡ [] = ends_at bad.lines bad.rest longer.more [] bad.no_next
+          (let P : List TextLine → Type 0 = Begins in subst P longer.lines (whole_begins p is)) longer.texts in
           let empty : bad.rest ≡ [] = rw (longer.texts, none) refl in
           bad.unfinished empty (p, all))
       | inr shorter ↦
@@ -157,7 +190,8 @@ not_bad reads p text n is text_is bad =
 pub not_over : ReadsLines → (p : Plan) (text : List ℕ) (n : ℕ) → IsPlan p → text ≡ plan_text p → FirstOver text n → ⊥
 not_over reads p text n is text_is over =
     let b : List TextLine = over.lines ++ (over.over ∷ []) in
-    let same : text_of b ++ over.rest ≡ text_of (lines_of p) ++ [] = cc (over_front text n over, whole_text p text text_is) in
+    let same : text_of b ++ over.rest ≡ text_of (lines_of p) ++ [] =
+    cc (over_front text n over, whole_text p text text_is) in
     let P : List TextLine → Type 0 = Within in
     elim (compare reads b (lines_of p) over.rest [] (begun_fits b over.admitted) (plan_fits p is.fits) same) [
       | inl longer ↦ over.too_many (front_within b longer.more (subst P longer.lines (whole_within p is)))
@@ -213,22 +247,30 @@ one_text reads p q p_is q_is same =
     ]
 
 -- the text of a plan is read as that plan, if memory suffices
-pub only_from : ReadsLines → (r : Result Plan PlanRefusal) (text : List ℕ) (p : Plan) → IfOk r (λ q. IsPlan q × (text ≡ plan_text q)) → IfErr r (Refuses text) → IsPlan p → text ≡ plan_text p → MatchResult r (λ q. q ≡ p) (λ e. e ≡ Memory)
+pub only_from : ReadsLines → (r : Result Plan PlanRefusal) (text : List ℕ) (p : Plan)
+    → IfOk r (λ q. IsPlan q × (text ≡ plan_text q)) → IfErr r (Refuses text) → IsPlan p → text ≡ plan_text p
+    → MatchResult r (λ q. q ≡ p) (λ e. e ≡ Memory)
 only_from reads (Ok q) text p found refused is text_is = one_text reads q p found.0 is (cc (found.1, text_is))
 only_from reads (Err (Line n)) text p found refused is text_is = absurd (not_bad reads p text n is text_is refused)
 only_from reads (Err (TooMany n)) text p found refused is text_is = absurd (not_over reads p text n is text_is refused)
 only_from reads (Err Memory) text p found refused is text_is = refl
 
 -- the first bad line is the answer, if memory suffices
-pub line_due : ReadsLines → (r : Result Plan PlanRefusal) (text : List ℕ) (n : ℕ) → IfOk r (λ q. IsPlan q × (text ≡ plan_text q)) → IfErr r (Refuses text) → FirstBad text n → MatchResult r (λ _. ⊥) (λ e. (e ≡ Line n) ⊎ (e ≡ Memory))
+pub line_due : ReadsLines → (r : Result Plan PlanRefusal) (text : List ℕ) (n : ℕ)
+    → IfOk r (λ q. IsPlan q × (text ≡ plan_text q)) → IfErr r (Refuses text) → FirstBad text n
+    → MatchResult r (λ _. ⊥) (λ e. (e ≡ Line n) ⊎ (e ≡ Memory))
 line_due reads (Ok q) text n found refused bad = not_bad reads q text n found.0 found.1 bad
-line_due reads (Err (Line m)) text n found refused bad = inl (ap (λ (k : ℕ). Line k) (one_bad reads text m n refused bad))
+line_due reads (Err (Line m)) text n found refused bad =
+    inl (ap (λ (k : ℕ). Line k) (one_bad reads text m n refused bad))
 line_due reads (Err (TooMany m)) text n found refused bad = absurd (not_both reads text n m bad refused)
 line_due reads (Err Memory) text n found refused bad = inr refl
 
 -- the first line too many is the answer, if memory suffices
-pub over_due : ReadsLines → (r : Result Plan PlanRefusal) (text : List ℕ) (n : ℕ) → IfOk r (λ q. IsPlan q × (text ≡ plan_text q)) → IfErr r (Refuses text) → FirstOver text n → MatchResult r (λ _. ⊥) (λ e. (e ≡ TooMany n) ⊎ (e ≡ Memory))
+pub over_due : ReadsLines → (r : Result Plan PlanRefusal) (text : List ℕ) (n : ℕ)
+    → IfOk r (λ q. IsPlan q × (text ≡ plan_text q)) → IfErr r (Refuses text) → FirstOver text n
+    → MatchResult r (λ _. ⊥) (λ e. (e ≡ TooMany n) ⊎ (e ≡ Memory))
 over_due reads (Ok q) text n found refused over = not_over reads q text n found.0 found.1 over
 over_due reads (Err (Line m)) text n found refused over = absurd (not_both reads text m n refused over)
-over_due reads (Err (TooMany m)) text n found refused over = inl (ap (λ (k : ℕ). TooMany k) (one_over reads text m n refused over))
+over_due reads (Err (TooMany m)) text n found refused over =
+    inl (ap (λ (k : ℕ). TooMany k) (one_over reads text m n refused over))
 over_due reads (Err Memory) text n found refused over = inr refl

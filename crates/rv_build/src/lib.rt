@@ -1,4 +1,5 @@
-// Small linked executables for tests: code at 0x10100 with its symbols and its relocation entries.
+// Small linked executables, for tests and for the program that `gen` writes: code at 0x10100 with its symbols
+// and its relocation entries.
 #![tactic(auto)]
 
 mod assembly;

@@ -13,7 +13,8 @@ digit_again : (d : ℕ) → d < 16 → hex_value (hex_digit d) ≡ Some d
 digit_again d h = grind (arith, nat_tests)
 
 -- a number that is found has 32 bits, and is written there
-pub hex_takes : (bytes : List ℕ) (v : ℕ) (rest : List ℕ) → hex_at bytes ≡ Some (v, rest) → (v < 2 ^ 32) × (bytes ≡ hex8 v ++ rest)
+pub hex_takes : (bytes : List ℕ) (v : ℕ) (rest : List ℕ) → hex_at bytes ≡ Some (v, rest)
+    → (v < 2 ^ 32) × (bytes ≡ hex8 v ++ rest)
 unfolding hex_at hex8
 hex_takes [] v rest e = absurd cc
 hex_takes (a ∷ []) v rest e = absurd cc
@@ -65,5 +66,6 @@ hex_again v rest small =
     let d2 = digit_again (v / 16 ^ 2 % 16) (omega arith) in
     let d1 = digit_again (v / 16 % 16) (omega arith) in
     let d0 = digit_again (v % 16) (omega arith) in
-    let sum : v / 16 ^ 7 % 16 * 16 ^ 7 + v / 16 ^ 6 % 16 * 16 ^ 6 + v / 16 ^ 5 % 16 * 16 ^ 5 + v / 16 ^ 4 % 16 * 16 ^ 4 + v / 16 ^ 3 % 16 * 16 ^ 3 + v / 16 ^ 2 % 16 * 16 ^ 2 + v / 16 % 16 * 16 + v % 16 ≡ v = omega arith in
+    let sum : v / 16 ^ 7 % 16 * 16 ^ 7 + v / 16 ^ 6 % 16 * 16 ^ 6 + v / 16 ^ 5 % 16 * 16 ^ 5 + v / 16 ^ 4 % 16 * 16 ^ 4
+    + v / 16 ^ 3 % 16 * 16 ^ 3 + v / 16 ^ 2 % 16 * 16 ^ 2 + v / 16 % 16 * 16 + v % 16 ≡ v = omega arith in
     rw (d7, d6, d5, d4, d3, d2, d1, d0, sum) refl

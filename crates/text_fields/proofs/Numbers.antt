@@ -34,15 +34,18 @@ passed : {A : Type 0} (t : Bool) (o : Option A) (y : A) → cond t o None ≡ So
 passed true o y e = (refl, e)
 passed false o y e = absurd cc
 
-on_takes : (max n v : ℕ) (ds : List ℕ) → n ≤ max → number_on max n ds ≡ Some v → (all_ascii_digits ds ≡ true) × (v ≡ read_on n ds) × (v ≤ max)
+on_takes : (max n v : ℕ) (ds : List ℕ) → n ≤ max → number_on max n ds ≡ Some v
+    → (all_ascii_digits ds ≡ true) × (v ≡ read_on n ds) × (v ≤ max)
 on_takes max n v [] low found = let same : n ≡ v = cc in (refl, sym same, omega arith)
 on_takes max n v (c ∷ cs) low found =
-    let p = passed (is_ascii_digit c && nat_le (10 * n + (c - 48)) max) (number_on max (10 * n + (c - 48)) cs) v found in
+    let p = passed (is_ascii_digit c && nat_le (10 * n + (c - 48)) max) (number_on max (10 * n + (c - 48)) cs) v
+    found in
     let both = and_parts (is_ascii_digit c) (nat_le (10 * n + (c - 48)) max) p.0 in
     let more = on_takes max (10 * n + (c - 48)) v cs (under _ _ both.1) p.1 in
     (rw (both.0, more.0) refl, more.1, more.2)
 
-on_again : (max n : ℕ) (ds : List ℕ) → all_ascii_digits ds ≡ true → read_on n ds ≤ max → number_on max n ds ≡ Some (read_on n ds)
+on_again : (max n : ℕ) (ds : List ℕ) → all_ascii_digits ds ≡ true → read_on n ds ≤ max
+    → number_on max n ds ≡ Some (read_on n ds)
 on_again max n [] digits low = refl
 on_again max n (c ∷ cs) digits low =
     let both = and_parts (is_ascii_digit c) (all_ascii_digits cs) digits in
@@ -50,10 +53,12 @@ on_again max n (c ∷ cs) digits low =
     rw (both.0, is_under _ _ fits, on_again max (10 * n + (c - 48)) cs both.1 low) refl
 
 -- a word that isn't refused at once has a digit, and no zero before others
-good_front : (len first : ℕ) → ((len == 0) || (nat_lt 1 len && (first == 48))) ≡ false → (0 < len) × (first ≡ 48 → len ≡ 1)
+good_front : (len first : ℕ) → ((len == 0) || (nat_lt 1 len && (first == 48))) ≡ false
+    → (0 < len) × (first ≡ 48 → len ≡ 1)
 good_front len first e = grind (arith, nat_tests)
 
-is_good_front : (len first : ℕ) → 0 < len → (first ≡ 48 → len ≡ 1) → ((len == 0) || (nat_lt 1 len && (first == 48))) ≡ false
+is_good_front : (len first : ℕ) → 0 < len → (first ≡ 48 → len ≡ 1)
+    → ((len == 0) || (nat_lt 1 len && (first == 48))) ≡ false
 is_good_front len first some alone = grind (arith, nat_tests)
 
 -- a test before a step has failed, if the step found something
@@ -61,13 +66,16 @@ not_refused : {A : Type 0} (t : Bool) (o : Option A) (y : A) → cond t None o �
 not_refused true o y e = absurd cc
 not_refused false o y e = (refl, e)
 
-pub of_takes : (max v : ℕ) (word : List ℕ) → max < 2 ^ 59 → number_of max word ≡ Some v → (v ≤ max) × (word ≡ decimal v) × (all_ascii_digits word ≡ true)
+pub of_takes : (max v : ℕ) (word : List ℕ) → max < 2 ^ 59 → number_of max word ≡ Some v
+    → (v ≤ max) × (word ≡ decimal v) × (all_ascii_digits word ≡ true)
 unfolding number_of
 of_takes max v word small found =
-    let p = not_refused ((length word == 0) || (nat_lt 1 (length word) && (get_or word 0 0 == 48))) (number_on max 0 word) v found in
+    let p = not_refused ((length word == 0) || (nat_lt 1 (length word) && (get_or word 0 0 == 48)))
+    (number_on max 0 word) v found in
     let front = good_front (length word) (get_or word 0 0) p.0 in
     let read = on_takes max 0 v word (omega arith) p.1 in
-    let same : decimal (read_on 0 word) ≡ word = decimal-digits_value own word read.0 front.0 front.1 (omega (arith, read.1, read.2)) in
+    let same : decimal (read_on 0 word) ≡ word =
+    decimal-digits_value own word read.0 front.0 front.1 (omega (arith, read.1, read.2)) in
     (read.2, rw (read.1) (sym same), read.0)
 
 decimal_front : (n : ℕ) → n < 2 ^ 64 → get_or (decimal n) 0 0 ≡ 48 → length (decimal n) ≡ 1
@@ -80,15 +88,18 @@ of_again max v low small =
     let tiny : v < 2 ^ 64 = omega arith in
     let is : read_on 0 (decimal v) ≡ v = digits_value-decimal own v tiny in
     let digits : all_ascii_digits (decimal v) ≡ true = digits_decimal own v tiny in
-    let front = is_good_front (length (decimal v)) (get_or (decimal v) 0 0) (decimal_nonempty v tiny) (decimal_front v tiny) in
-    let on : number_on max 0 (decimal v) ≡ Some (read_on 0 (decimal v)) = on_again max 0 (decimal v) digits (rw is low) in
+    let front = is_good_front (length (decimal v)) (get_or (decimal v) 0 0) (decimal_nonempty v tiny)
+    (decimal_front v tiny) in
+    let on : number_on max 0 (decimal v) ≡ Some (read_on 0 (decimal v)) =
+    on_again max 0 (decimal v) digits (rw is low) in
     rw (front, on, is) refl
 
 pub decimal_digits : (v : ℕ) → v < 2 ^ 64 → all_ascii_digits (decimal v) ≡ true
 decimal_digits v small = digits_decimal own v small
 
 -- a number that is found is in range, and is written there in decimal before the end byte
-pub number_takes : (end max v : ℕ) (bytes rest : List ℕ) → max < 2 ^ 59 → number_at end max bytes ≡ Some (v, rest) → (v ≤ max) × (bytes ≡ decimal v ++ (end ∷ rest))
+pub number_takes : (end max v : ℕ) (bytes rest : List ℕ) → max < 2 ^ 59 → number_at end max bytes ≡ Some (v, rest)
+    → (v ≤ max) × (bytes ≡ decimal v ++ (end ∷ rest))
 unfolding number_at
 number_takes end max v bytes rest small found =
     bound (cut_at end bytes) _ _ found (λ parts cut more.
@@ -99,7 +110,8 @@ number_takes end max v bytes rest small found =
     (omega (arith, of.0, both.0), cc (whole, of.1, both.0, both.1))))
 
 -- a number in range that is written in decimal before the end byte is found
-pub number_again : (end max v : ℕ) (rest : List ℕ) → end < 48 → v ≤ max → max < 2 ^ 59 → number_at end max (decimal v ++ (end ∷ rest)) ≡ Some (v, rest)
+pub number_again : (end max v : ℕ) (rest : List ℕ) → end < 48 → v ≤ max → max < 2 ^ 59
+    → number_at end max (decimal v ++ (end ∷ rest)) ≡ Some (v, rest)
 unfolding number_at
 number_again end max v rest low fits small =
     let tiny : v < 2 ^ 64 = omega arith in
