@@ -1,10 +1,10 @@
 -- What holds of tables at all times still holds after a block was placed or released.
 use Rattle.std.proofs.Common.{◌≡◌, ℕ, ◌+◌, ◌-◌, ◌*◌, ◌/◌, ◌<◌, ◌≤◌, ◌≢◌, ◌⊎◌, cond, Bool, true, false, List, [], ◌∷◌, inl, inr, sym, ◌∙◌, subst, refl, ap, arith}
-use Rattle.std.specs.Prelude.{Option, Some, None, option_map, Any, nat_lt, slice_set}
+use Rattle.std.specs.Prelude.{Option, Some, None, is_some, option_map, Any, nat_lt, slice_set}
 use Rattle.std.specs.Option.{option_map_or}
 use Rattle.plan_core.specs.declared.types.Area.{Area}
 use Rattle.plan_core.specs.declared.types.Plan.{Plan}
-use Rattle.plan_core.specs.Plan.{group_of_bits}
+use Rattle.plan_core.specs.Plan.{granules, group_of_bits}
 use Rattle.place_spec.specs.declared.parts.Spot.{Spot}
 use Rattle.place_spec.specs.Layout.{Block, Layout, first_layout, chunk_of, address_of}
 use Rattle.place_spec.specs.Place.{Placed, spot_of, granule_of, taken, placed_at, placed_in}
@@ -29,6 +29,15 @@ pub place_new : (plan : Plan) (base need : ℕ) (tables : Tables) (group : Optio
     → IsNew plan.area (layout_of tables) need (granule_of plan.area (layout_of tables) spot)
 place_new plan base need tables group spot k some s e =
     new_block plan.area (layout_of tables) need group spot (parts plan.area (layout_of tables) k.sound) some s e
+
+-- a block that is placed is no larger than the area
+pub spot_small : (plan : Plan) (base need : ℕ) (tables : Tables) (group : Option ℕ) (spot : Option Spot) → IsKept plan base tables → 1 ≤ need
+    → ((g : ℕ) → group ≡ Some g → g < 16) → spot_of plan.area (layout_of tables) need group ≡ spot → is_some spot ≡ true
+    → need ≤ granules plan.area
+spot_small plan base need tables group None k some s e h = absurd (cc)
+spot_small plan base need tables group (Some spot) k some s e h =
+    let n = place_new plan base need tables group spot k some s e in
+    let i = n.inside in omega (arith, i)
 
 pub place_kept : (plan : Plan) (base need : ℕ) (old new : Tables) (group : Option ℕ) (spot : Spot) → IsKept plan base old → 1 ≤ need
     → ((g : ℕ) → group ≡ Some g → g < 16) → spot_of plan.area (layout_of old) need group ≡ Some spot

@@ -94,7 +94,8 @@ impl Places {
     /// Whether a block of `need` granules would be placed for a request under `bits`.
     pub fn fits(&self, need: u32, bits: u32) -> bool
         requires { 1 ≤ need }
-        ensures { IsTrue result ↔ IsSome (placed_in_heap self.now need bits) }
+        ensures fits { IsTrue result ↔ IsSome (placed_in_heap self.now need bits) }
+        ensures small { IsTrue result → need ≤ granules self.now.area }
     {
         let group = group_of(&self.plan, bits);
         self.tables.spot(self.plan.area, need, group).is_some()
