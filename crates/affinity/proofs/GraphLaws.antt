@@ -1,6 +1,6 @@
 -- The graph that a table of weights gives.
-use Rattle.std.proofs.Common.{◌≡◌, ◌==◌, ◌&&◌, ◌||◌, ◌++◌, ◌<◌, ◌≤◌, ◌+◌, ℕ, zero, suc, Bool, true, false, cond, min, max, List, [], ◌∷◌, length, get_or, take, add-one, Some, Result, Ok, Err, inl, inr, refl, ap, sym, ◌∙◌, subst, arith}
-use Rattle.std.specs.Prelude.{All, AllPairs, IsPermutation, IsSorted, IfOk, OnOk, unwrap_or, slice_get}
+use Rattle.std.proofs.Common.{◌≡◌, ◌==◌, ◌&&◌, ◌||◌, ◌++◌, ◌<◌, ◌≤◌, ◌+◌, ◌^◌, ℕ, zero, suc, Bool, true, false, cond, min, max, List, [], ◌∷◌, length, get_or, take, add-one, Some, Result, Ok, Err, inl, inr, refl, ap, sym, ◌∙◌, subst, arith}
+use Rattle.std.specs.Prelude.{All, AllPairs, IsPermutation, IsSorted, IfOk, OnOk, unwrap_or, slice_get, slice_index}
 use Rattle.std.specs.List.{list_any, IsDistinct}
 use Rattle.std.specs.Map.{lookup, keys_of}
 use Rattle.std.specs.Ordering.{is_lt}
@@ -11,9 +11,11 @@ use Rattle.std.proofs.lemmas.Bool.{cases_lt}
 use Rattle.std.proofs.lemmas.Bool.Decides.{nat_tests}
 use Rattle.std.proofs.lemmas.List.{get_or-map, length-map, map_more}
 use Rattle.std.proofs.lemmas.List.Elements.{All-weaker}
+use Rattle.std.proofs.lemmas.List.Sums.{count_by-le-length}
 use Rattle.std.proofs.lemmas.Map.Keys.{IsDistinct-tail, apart_from_distinct, IsDistinct-from_apart, IsDistinct-IsPermutation}
 use Rattle.plan_core.specs.declared.profiles.Event.{Event}
 use Rattle.plan_core.specs.declared.profiles.Edge.{Edge}
+use Rattle.plan_core.specs.declared.profiles.Node.{Node}
 use Rattle.plan_core.specs.declared.profiles.Graph.{Graph}
 use Rattle.plan_core.specs.Graphs.{EndsBefore, Joins}
 use Rattle.affinity.specs.declared.entries.Entry.{Entry}
@@ -26,6 +28,7 @@ use Rattle.affinity.specs.Edges.{edge_of, edges_in, edge_cmp}
 use Rattle.affinity.specs.Pushed.{Pushed}
 use Rattle.affinity.proofs.Sums.{one}
 use Rattle.affinity.proofs.EntryWeights.{blank}
+use Rattle.affinity.proofs.HistoryLaws.{entries_few}
 use Rattle.affinity.proofs.Standing.{stands, blocks_known, contexts_known, nodes_long}
 use Rattle.affinity.proofs.Accesses.{weight_fits}
 
@@ -259,6 +262,10 @@ module _ (a : Seen) (h : List Event) (p : Pushed a h) (g : Graph) (nodes : g.nod
         ∙ found_any a.memory.weights low high (omega (arith, some, p.weights low high));
   }
 
+-- the counts of a node are below 2 ^ 32
+abbrev IsSmall : Node → Type 0
+IsSmall n = (n.grants < 2 ^ 32) × (n.accesses < 2 ^ 32)
+
 -- what the parts of an answered graph say, for each list of events
 pub graph_told : (r : Result Graph AllocError) (a : Seen) → IfOk r (λ g. g.nodes ≡ a.memory.nodes)
     → IfOk r (λ g. IsPermutation (edges_in a.memory.weights) g.edges)
@@ -266,3 +273,20 @@ pub graph_told : (r : Result Graph AllocError) (a : Seen) → IfOk r (λ g. g.no
     → IfOk r (λ g. (h : List Event) → Pushed a h → IsGraph a.distance h g)
 graph_told (Ok g) a nodes same sorted distinct = λ h p. graph_is a h p g nodes same sorted distinct
 graph_told (Err e) a nodes same sorted distinct = distinct
+
+-- the counts of its nodes
+pub nodes_told : (r : Result Graph AllocError) (a : Seen) (h : List Event) → Pushed a h
+    → IfOk r (λ g. g.nodes ≡ a.memory.nodes) → IfOk r (λ g. All IsSmall g.nodes)
+nodes_told (Ok g) a h p nodes = rw nodes (λ c d low.
+    let n = p.nodes.1 c d low in (
+      omega (arith, n.0, count_by-le-length (λ x. x == c) (contexts_of h), p.grants, p.few.0),
+      omega (
+        arith,
+        n.1,
+        count_by-le-length (λ e. slice_index (contexts_of h) e.block == c) (access_list h),
+        entries_few h,
+        p.accesses,
+        p.few.1,
+      ),
+    ))
+nodes_told (Err e) a h p nodes = nodes

@@ -1,5 +1,5 @@
 // An affinity, which takes events one by one and counts as it goes.
-ghost use Rattle.std.specs.Prelude.{◌≡◌, ℕ, ◌+◌, ◌-◌, ◌^◌, ◌<◌, ◌≤◌, ◌++◌, ◌∷◌, [], List, length, slice_get, slice_index_or, vec_len, ◌↔◌, IsTrue, true, Some, OnOk, OnErr, IfOk};
+ghost use Rattle.std.specs.Prelude.{◌≡◌, ℕ, ◌+◌, ◌-◌, ◌^◌, ◌<◌, ◌≤◌, ◌++◌, ◌∷◌, [], List, All, length, slice_get, slice_index_or, vec_len, ◌↔◌, IsTrue, true, Some, OnOk, OnErr, IfOk};
 ghost use Rattle.std.specs.Vec.{vec_capacity};
 ghost use Rattle.indexmap.specs.IndexMap.{spare};
 ghost use Rattle.plan_core.specs.declared.profiles.Event.{Event as EventValue};
@@ -153,6 +153,7 @@ impl Affinity {
     // Takes the grant of the next block.
     fn grant(&mut self, context: u32) -> Result<(), AllocError>
         requires { Takes self.old (Grant self.old.grants context) }
+        ensures distance { self.new.distance ≡ self.old.distance }
         ensures pushed { OnOk result ((h : List EventValue) → Pushed self.old h
             → Pushed self.new (h ++ Grant self.old.grants context ∷ [])) }
         ensures err { OnErr result (self.new ≡ self.old) }
@@ -168,6 +169,7 @@ impl Affinity {
     // Takes an access to a living block.
     fn access(&mut self, block: u32, width: u32) -> Result<(), AllocError>
         requires { Takes self.old (Access block width) }
+        ensures distance { self.new.distance ≡ self.old.distance }
         ensures pushed { OnOk result ((h : List EventValue) → Pushed self.old h
             → Pushed self.new (h ++ Access block width ∷ [])) }
         ensures err { OnErr result (self.new ≡ self.old) }
@@ -188,7 +190,8 @@ impl Affinity {
     // Takes the release of a living block.
     fn release(&mut self, block: u32)
         requires { Takes self.old (Release block) }
-        ensures { (h : List EventValue) → Pushed self.old h → Pushed self.new (h ++ Release block ∷ []) }
+        ensures distance { self.new.distance ≡ self.old.distance }
+        ensures pushed { (h : List EventValue) → Pushed self.old h → Pushed self.new (h ++ Release block ∷ []) }
     {
         self.lives[block as usize] = false;
     }
@@ -200,6 +203,7 @@ impl Affinity {
     /// the entries in reach, and no memory once the tables have grown.
     pub fn push(&mut self, event: Event) -> Result<(), AllocError>
         requires { Takes self.old event }
+        ensures distance { self.new.distance ≡ self.old.distance }
         ensures pushed { OnOk result ((h : List EventValue) → Pushed self.old h → Pushed self.new (h ++ event ∷ [])) }
         ensures err { OnErr result (self.new ≡ self.old) }
     {
@@ -223,7 +227,8 @@ impl Affinity {
 
     /// The graph of the events so far.
     pub fn graph(&self, alloc: Global) -> Result<Graph, AllocError>
-        ensures { IfOk result (λ g. (h : List EventValue) → Pushed self.now h → IsGraph self.now.distance h g) }
+        ensures exact { IfOk result (λ g. (h : List EventValue) → Pushed self.now h → IsGraph self.now.distance h g) }
+        ensures counts { IfOk result (λ g. All (λ n. (n.grants < 2 ^ 32) × (n.accesses < 2 ^ 32)) g.nodes) }
     {
         graph_of(alloc, &self.nodes, &self.weights)
     }

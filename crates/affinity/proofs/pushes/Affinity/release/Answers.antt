@@ -11,7 +11,7 @@ invariant_of-self c =
       release_pushed (seen_of c.self.inside) c.self.invariant.0 c.args.block c.self.invariant.1 t,
     )
 
-pub returns : goal.returns
-returns c = λ h p.
+pub returns-clause-pushed : goal.returns-clause-pushed
+returns-clause-pushed c = λ h p.
     let t = rw (← c.self.view_is) at c.requires in
     release_pushed (seen_of c.self.inside) h c.args.block (rw (← c.self.view_is) at p) t
