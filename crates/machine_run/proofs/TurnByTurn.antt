@@ -1,14 +1,14 @@
 -- Runs, turn by turn.
 use Rattle.std.proofs.Common.{◌≡◌, ℕ, zero, suc, ◌+◌, ◌-◌, ◌<◌, ◌≤◌, List, [], ◌++◌, refl, ap, sym, subst, ◌∙◌, append-nil, add-one, arith, inl}
 use borrow.Author.Count.{below_more}
-use Rattle.std.specs.Prelude.{Option, Some, None, true, Ok, Err}
+use Rattle.std.specs.Prelude.{Option, Some, None, Ok, Err}
 use Rattle.halo_outside.specs.Seen.{AppendsPrefix}
 use Rattle.machine_spec.specs.declared.Ending.{Ending}
 use Rattle.machine_spec.specs.declared.Ending.TheVariants as ending
 use Rattle.machine_run.specs.declared.RunEnd.TheVariants.{Steps, ReadFault, WriteFault}
-use Rattle.machine_run.specs.Machines.{Output, Rules, Seen, Stays, ending_of}
+use Rattle.machine_run.specs.Machines.{GoesQuietly, Output, Rules, Seen, Stays, ending_of}
 use Rattle.machine_run.specs.Output.{Passes}
-use Rattle.machine_run.specs.Runs.{State, after, next, steps, run_from, IsRunning, EndsAt, IsLeft, IsCutOff, Ran}
+use Rattle.machine_run.specs.Runs.{State, after, next, steps, run_from, IsRunning, EndsAt, MayLack, IsLeft, IsCutOff, Ran}
 use Rattle.machine_run.specs.Serving.{IsDone, Holds}
 use Rattle.machine_run.proofs.Passing.{passes_none, passes_more, passes_part}
 
@@ -86,6 +86,31 @@ ran_next {S} of m input n old new told told' out mid out' p q r runs does =
           (running_now of m input n old told out mid p r runs);
     }
 
+-- quiet turns behind the first ones
+pub ran_quietly : {S : Type 0} (of : Rules S) (m : S) (input : List ℕ) (n j : ℕ) (old new : Seen S)
+    (told out out' : Option (List ℕ)) (p : List ℕ)
+    → RanSoFar of m input n old told out out' p → GoesQuietly of j old.machine new.machine → new.waits ≡ None
+    → RanSoFar of m input (n + j) new told out out' p
+ran_quietly of m input n zero old new told out out' p r h goes =
+    let all : n + 0 ≡ n = omega arith in
+    rw all (record {
+      leaves = record { machine = h ∙ r.leaves.machine; waits = goes; left = r.leaves.left };
+      output = r.output;
+      runs = r.runs;
+    })
+ran_quietly {S} of m input n (suc j) old new told out out' p r (mid, led, runs, quiet) goes =
+    let at : Seen S = record { machine = mid; waits = None; written = [] } in
+    let all : n + suc j ≡ n + j + 1 = omega arith in
+    rw all (ran_next of m input (n + j) at new told told out out' out' p p
+    (ran_quietly of m input n j old at told out out' p r led refl) runs (λ left is. (
+      record {
+        machine = ap (λ t. t.next) (sym (quiet left));
+        waits = goes;
+        left = is ∙ ap (λ t. Some t.left) (sym (quiet left));
+      },
+      subst (λ t. Passes out' out' p p t.written) (sym (quiet left)) (passes_none out' p),
+    )))
+
 -- a run that ended at its last turn
 pub ends_at : {S : Type 0} (of : Rules S) (m : S) (input : List ℕ) (n bound : ℕ) (now : Seen S)
     (told out out' : Option (List ℕ)) (p : List ℕ) (e : Ending)
@@ -145,7 +170,7 @@ ran_stopped {S} of m input n bound old new told told' out mid out' p q r runs l 
 pub ran_lacking : {S E : Type 0} (of : Rules S) (m : S) (input : List ℕ) (n bound : ℕ) (old new : Seen S)
     (told told' out mid out' : Option (List ℕ)) (p q : List ℕ) (lack : E)
     → RanSoFar of m input n old told out mid p → ending_of of old.machine ≡ ending.Running → n < bound
-    → of.may_lack ≡ true
+    → MayLack of old.machine
     → ((left : List ℕ) → told ≡ Some left
     → (new.machine ≡ old.machine) × (new.waits ≡ None) × (told' ≡ Some left) × (out' ≡ mid) × (q ≡ p))
     → Ran of (Err lack) bound m input new told' (Holds {E = E} (Err lack) out out' q)
@@ -153,7 +178,11 @@ ran_lacking of m input n bound old new told told' out mid out' p q lack r runs l
     let is = does (run_from of m input n).input r.leaves.left in
     record {
       taken = n;
-      answer = (l, running_now of m input n old told out mid p r runs, may);
+      answer = (
+        l,
+        running_now of m input n old told out mid p r runs,
+        sym (ap (λ m. of.may_lack m) r.leaves.machine) ∙ may,
+      );
       runs = r.runs;
       leaves = record { machine = is.0 ∙ r.leaves.machine; waits = is.1; left = is.2 };
       output = rw (is.3, is.4) r.output;

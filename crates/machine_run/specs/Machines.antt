@@ -1,6 +1,7 @@
 -- What a run knows of a machine: its rules, and what is seen of it between two steps.
-use Rattle.std.specs.Prelude.{◌≡◌, ℕ, ◌+◌, List, [], Option, Some, None, Bool, length}
+use Rattle.std.specs.Prelude.{◌≡◌, ℕ, zero, suc, ◌+◌, List, [], Option, Some, None, Bool, length}
 use Rattle.machine_spec.specs.declared.Ending.{Ending}
+use Rattle.machine_spec.specs.declared.Ending.TheVariants.{Running}
 
 -- what the next turn wants of the outside: nothing, at most so many bytes of the input, or that so many
 -- bytes are written
@@ -20,14 +21,14 @@ abbrev pub quiet : {S : Type 0} → List ℕ → S → Turned S
 quiet input m = record { next = m; written = []; left = input }
 
 -- the rules of a machine: whether it runs or how it ended, what its next turn asks for, its turn on an
--- input, the machine at a read whose buffer begins with these bytes, and whether its steps may want memory
+-- input, the machine at a read whose buffer begins with these bytes, and whether its next step may want memory
 -- of the host
 pub record Rules (S : Type 0) : Type 0 where
   pub ending : S → Ending
   pub asks : S → Asks
   pub turn : List ℕ → S → Turned S
   pub fed : S → List ℕ → S
-  pub may_lack : Bool
+  pub may_lack : S → Bool
 
 -- a machine stays as it is
 abbrev pub Stays : {S : Type 0} → Rules S → S → Type 0
@@ -35,6 +36,12 @@ Stays of m = (input : List ℕ) → of.turn input m ≡ quiet input m
 
 abbrev pub ending_of : {S : Type 0} → Rules S → S → Ending
 ending_of of m = of.ending m
+
+-- n turns of a machine that runs at each of them, on any input, neither read nor write and lead from old to new
+abbrev pub GoesQuietly : {S : Type 0} → Rules S → ℕ → S → S → Type 0
+GoesQuietly of zero old new = new ≡ old
+GoesQuietly {S} of (suc n) old new = (mid : S) × GoesQuietly of n old mid × (of.ending mid ≡ Running)
+    × ((input : List ℕ) → of.turn input mid ≡ quiet input new)
 
 -- a read that waits: the most bytes that it takes, and how many it was fed
 pub record Wait : Type 0 where

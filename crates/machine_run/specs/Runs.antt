@@ -42,11 +42,15 @@ abbrev pub WroteLast : {S : Type 0} → Rules S → S → List ℕ → ℕ → T
 WroteLast of m input taken =
     (before : ℕ) × (len : ℕ) × (taken ≡ before + 1) × (of.asks (run_from of m input before).machine ≡ Output len)
 
+-- the next step of the machine may want memory of the host
+abbrev pub MayLack : {S : Type 0} → Rules S → S → Type 0
+MayLack of m = of.may_lack m ≡ true
+
 -- when a write fails: at a turn that writes, or at the end of the run, where the buffered bytes are written;
 -- a run also ends where a step wants memory that there isn't
 abbrev pub StopsAt : {S : Type 0} → Rules S → S → List ℕ → (bound taken : ℕ) → Type 0
 StopsAt of m input bound taken = WroteLast of m input taken ⊎ (taken ≡ bound)
-    ⊎ (IsRunning of (run_from of m input taken) → ⊥) ⊎ (of.may_lack ≡ true)
+    ⊎ (IsRunning of (run_from of m input taken) → ⊥) ⊎ MayLack of (run_from of m input taken).machine
 
 -- the answer of a run of at most `bound` turns, of which so many were taken: an exit counts its own
 -- turn; an illegal word and a fault count the turns before; a failed read is no turn, and neither is a step
@@ -60,7 +64,7 @@ Answers of (Ok Steps) m input bound taken = (taken ≡ bound) × IsRunning of (r
 Answers of (Ok ReadFault) m input bound taken = (taken < bound) × IsRunning of (run_from of m input taken)
 Answers of (Ok WriteFault) m input bound taken = (taken ≤ bound) × StopsAt of m input bound taken
 Answers of (Err lack) m input bound taken =
-    (taken < bound) × IsRunning of (run_from of m input taken) × (of.may_lack ≡ true)
+    (taken < bound) × IsRunning of (run_from of m input taken) × MayLack of (run_from of m input taken).machine
 
 -- the machine is that of the state and doesn't wait, and the source has the rest of the input
 pub record IsLeft {S : Type 0} (s : State S) (now : Seen S) (told : Option (List ℕ)) : Type 0 where
@@ -134,4 +138,4 @@ EndsAs of (Ok Steps) bound now = (ending_of of now.machine ≡ Running) × (now.
 EndsAs of (Ok ReadFault) bound now = (ending_of of now.machine ≡ Running) × IsSome now.waits
 EndsAs of (Ok WriteFault) bound now = now.waits ≡ None
 EndsAs of (Err lack) bound now =
-    (ending_of of now.machine ≡ Running) × (now.waits ≡ None) × (of.may_lack ≡ true)
+    (ending_of of now.machine ≡ Running) × (now.waits ≡ None) × MayLack of now.machine

@@ -10,7 +10,7 @@ mod traits;
 pub use machine_spec::{Ending, FaultKind};
 pub use pause::{Pause, pause_of};
 pub use running::run;
-pub use serving::read_from;
+pub use serving::{feed_from, read_from};
 pub use traits::Machine;
 
 /// What a step of a machine did.

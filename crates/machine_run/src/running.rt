@@ -82,7 +82,12 @@ fn run_turns<M: Machine, I: Source, O: Sink>(
     ensures out_tells { TellsAlike (O.seen out.old).told (O.seen out.new).told }
     ensures out_later { (O.seen out.old).faults ≤ (O.seen out.new).faults }
 {
-    for taken in 0..steps {
+    let mut taken = 0;
+    while taken < steps {
+        taken += machine.run_quietly(steps - taken);
+        if taken == steps {
+            break;
+        }
         match serve(machine, pending, input, out) {
             Ok(()) => {}
             Err(Cut::AtRead) => return Ok(RunEnd::ReadFault),
@@ -90,7 +95,7 @@ fn run_turns<M: Machine, I: Source, O: Sink>(
             Err(Cut::NoMemory) => return Err(AllocError),
         }
         match machine.ending() {
-            Ending::Running => {}
+            Ending::Running => taken += 1,
             Ending::Exit(status) => {
                 return Ok(RunEnd::Exited {
                     status,

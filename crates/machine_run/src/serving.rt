@@ -1,8 +1,8 @@
 // Turns that read from a source and write to a sink.
-ghost use Rattle.std.specs.Prelude.{◌≡◌, ◌^◌, ◌<◌, ◌≤◌, ◌+◌, ℕ, List, [], true, Some, None, IsSome, OnOk, OnErr, IsErrOf};
+ghost use Rattle.std.specs.Prelude.{◌≡◌, ◌^◌, ◌<◌, ◌≤◌, ◌+◌, ℕ, List, [], Some, None, IsSome, OnOk, OnErr, IsErrOf};
 ghost use Rattle.halo_outside.specs.Seen.{Rose, TellsAlike};
 ghost use Rattle.machine_run.specs.Machines.{Input, ending_of, fed_with};
-ghost use Rattle.machine_run.specs.Runs.{Draws, IsCutOff};
+ghost use Rattle.machine_run.specs.Runs.{Draws, IsCutOff, MayLack};
 ghost use Rattle.machine_run.specs.Serving.{IsFedPart, IsFedWhole, IsDone, Serves};
 
 use crate::Stepped;
@@ -22,8 +22,13 @@ pub enum Cut {
     NoMemory,
 }
 
-/// Feeds a read from the source until it has all that it wants, or nothing is left.
-fn feed_from<M: Machine, I: Source>(machine: &mut M, len: u32, input: &mut I) -> Result<(), Failed>
+/// Feeds a read of at most `len` bytes at which the machine waits from the source, until it has all that it
+/// wants or nothing is left. The machine still waits then.
+pub fn feed_from<M: Machine, I: Source>(
+    machine: &mut M,
+    len: u32,
+    input: &mut I,
+) -> Result<(), Failed>
     requires { (M.seen machine.old).waits ≡ Some (record { len = len; fed = 0 }) }
     ensures tells { TellsAlike (I.seen input.old).told (I.seen input.new).told }
     ensures later { (I.seen input.old).faults ≤ (I.seen input.new).faults }
@@ -35,6 +40,8 @@ fn feed_from<M: Machine, I: Source>(machine: &mut M, len: u32, input: &mut I) ->
     ensures runs { ending_of M.rules (M.seen machine.new).machine
         ≡ ending_of M.rules (M.seen machine.old).machine }
     ensures lasts { M.lasts machine.new ≡ M.lasts machine.old }
+    ensures fed { (m : M.State) → M.seen machine.old ≡ fed_with M.rules len m []
+        → (bytes : List ℕ) × (M.seen machine.new ≡ fed_with M.rules len m bytes) }
     ensures whole { OnOk result ((m : M.State) (left : List ℕ) → M.seen machine.old ≡ fed_with M.rules len m []
         → (I.seen input.old).told ≡ Some left
         → IsFedWhole M.rules len m left (M.seen machine.new) (I.seen input.new).told) }
@@ -116,7 +123,7 @@ pub fn serve<M: Machine, I: Source, O: Sink>(
     ensures runs { IsErrOf result Cut.AtRead → ending_of M.rules (M.seen machine.new).machine ≡ Ending.Running }
     ensures write { IsErrOf result Cut.AtWrite → Rose (O.seen out.old).faults (O.seen out.new).faults }
     ensures stands { IsErrOf result Cut.AtWrite → (M.seen machine.new).waits ≡ None }
-    ensures lacks { IsErrOf result Cut.NoMemory → M.rules.may_lack ≡ true }
+    ensures lacks { IsErrOf result Cut.NoMemory → MayLack M.rules (M.seen machine.old).machine }
     ensures kept { IsErrOf result Cut.NoMemory → M.seen machine.new ≡ M.seen machine.old }
     ensures fewer { M.lasts machine.old ≤ M.lasts machine.new + 1 }
 {

@@ -1,6 +1,7 @@
 // What a run needs of a machine.
-ghost use Rattle.std.specs.Prelude.{◌≡◌, ◌≢◌, ◌+◌, ◌<◌, ◌≤◌, ℕ, List, [], ◌++◌, true, None, IsSome, IsSomeAnd, IfOk, OnErr, length, take, drop};
-ghost use Rattle.machine_run.specs.Machines.{Rules, Seen, WaitsOn, Stays, ending_of, fed_with};
+ghost use Rattle.std.specs.Prelude.{◌≡◌, ◌≢◌, ◌+◌, ◌<◌, ◌≤◌, ℕ, List, [], ◌++◌, None, IsSome, IsSomeAnd, IfOk, OnErr, length, take, drop};
+ghost use Rattle.machine_run.specs.Machines.{GoesQuietly, Rules, Seen, WaitsOn, Stays, ending_of, fed_with};
+ghost use Rattle.machine_run.specs.Runs.{MayLack};
 ghost use Rattle.machine_run.specs.Steps.{StepsTo, EndsRead};
 
 use crate::Stepped;
@@ -30,7 +31,23 @@ pub trait Machine {
             → StepsTo rules stepped input (seen self.old).machine (seen self.new)) }
         ensures fewer { lasts self.old ≤ lasts self.new + 1 }
         ensures kept { OnErr result (seen self.new ≡ seen self.old) }
-        ensures lacks { OnErr result (rules.may_lack ≡ true) };
+        ensures lacks { OnErr result (MayLack rules (seen self.old).machine) };
+
+    /// Takes at most so many turns that neither read nor write nor end, and answers how many. It may stop
+    /// before any turn: whoever goes on takes the next one by `try_step`.
+    fn run_quietly(&mut self, most: u32) -> u32
+        requires goes { (seen self.old).waits ≡ None }
+        requires runs { ending_of rules (seen self.old).machine ≡ Ending.Running }
+        requires lasts { most ≤ lasts self.old }
+        ensures within { result ≤ most }
+        ensures turns { GoesQuietly rules result (seen self.old).machine (seen self.new).machine }
+        ensures goes { (seen self.new).waits ≡ None }
+        ensures runs { ending_of rules (seen self.new).machine ≡ Ending.Running }
+        ensures fewer { lasts self.old ≤ lasts self.new + result }
+    {
+        let _ = most;
+        0
+    }
 
     /// Puts the next piece of the input into the buffer of the read at which the machine waits.
     fn take_piece(&mut self, piece: &[u8])

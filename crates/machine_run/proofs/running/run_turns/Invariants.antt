@@ -1,4 +1,4 @@
-use Rattle.std.proofs.Common.{◌≡◌, ◌+◌, ◌^◌, ◌<◌, ◌≤◌, ℕ, List}
+use Rattle.std.proofs.Common.{◌≡◌, ◌+◌, ◌-◌, ◌^◌, ◌<◌, ◌≤◌, ℕ, List}
 use Rattle.std.specs.Prelude.{Some, None}
 use Rattle.halo_outside.specs.Seen.{TellsAlike}
 use Rattle.machine_spec.specs.declared.Ending.TheVariants.{Running}
@@ -10,6 +10,7 @@ use Rattle.machine_run.proofs.running.run_turns.Given as goal
 -- the machine still runs, and stands where its turns so far lead
 abbrev pub invariant-loop-taken : goal.invariant-loop-taken
 invariant-loop-taken g l = record {
+  within : l.taken ≤ l.steps;
   goes : (g.M.Machine.seen l.machine).waits ≡ None;
   runs : ending_of g.M.Machine.rules (g.M.Machine.seen l.machine).machine ≡ Running;
   lasts : l.steps ≤ g.M.Machine.lasts l.machine + l.taken;
@@ -26,3 +27,6 @@ invariant-loop-taken g l = record {
       (g.I.Source.seen l.input).told
       (g.O.Sink.seen l.fn.out).told (g.O.Sink.seen l.out).told l.pending;
 }
+
+abbrev pub decreases-loop-taken : goal.decreases-loop-taken
+decreases-loop-taken g l = l.steps - l.taken

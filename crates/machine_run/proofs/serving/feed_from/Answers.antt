@@ -1,4 +1,4 @@
-use Rattle.std.proofs.Common.{rules, arith, ◌≡◌, ◌<◌, ◌≤◌, ℕ, List, ◌++◌, length, take, drop, ◌∙◌, refl}
+use Rattle.std.proofs.Common.{rules, arith, ◌≡◌, ◌<◌, ◌≤◌, ℕ, List, [], ◌++◌, length, take, drop, ◌∙◌, refl}
 use Rattle.std.proofs.lemmas.List.{length-take, length-append, length-drop}
 use Rattle.machine_run.proofs.Drawing.{draws_none, draws_kept, draws_next}
 use Rattle.machine_run.proofs.Feeding.{err_kept, fed_none, fed_end, fed_all, fed_more, piece_long, still_waits}
@@ -11,6 +11,7 @@ loop-fed-init g c = record {
   waits = c.requires;
   runs = search rules;
   lasts = refl;
+  bytes = λ m is. ([], is);
   tells = search rules;
   later = omega arith;
   more = omega arith;
@@ -58,6 +59,9 @@ loop-fed-preserved g c =
           (piece_long _ _ _ few);
       runs = c.take_piece.ensures.runs ∙ c.loop-fed.invariant.runs;
       lasts = c.take_piece.ensures.lasts ∙ c.loop-fed.invariant.lasts;
+      bytes = λ m is.
+          (let fed = c.loop-fed.invariant.bytes m is in
+          (fed.0 ++ piece, c.take_piece.ensures.adds_up m c.args.len fed.0 fed.1));
       tells = search rules;
       later = omega arith;
       more = omega arith;

@@ -15,6 +15,8 @@ invariant-loop-fed g l = record {
   runs : ending_of g.M.Machine.rules (g.M.Machine.seen l.machine).machine
       ≡ ending_of g.M.Machine.rules (g.M.Machine.seen l.fn.machine).machine;
   lasts : g.M.Machine.lasts l.machine ≡ g.M.Machine.lasts l.fn.machine;
+  bytes : (m : g.M.Machine.State) → g.M.Machine.seen l.fn.machine ≡ fed_with g.M.Machine.rules l.len m []
+      → (bytes : List ℕ) × (g.M.Machine.seen l.machine ≡ fed_with g.M.Machine.rules l.len m bytes);
   tells : TellsAlike (g.I.Source.seen l.fn.input).told (g.I.Source.seen l.input).told;
   later : (g.I.Source.seen l.fn.input).faults ≤ (g.I.Source.seen l.input).faults;
   more : (g.I.Source.seen l.fn.input).taken ≤ (g.I.Source.seen l.input).taken;
