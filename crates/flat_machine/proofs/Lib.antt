@@ -4,3 +4,4 @@ pub mod Waiting
 pub mod Stepping
 pub mod ByRules
 pub mod SameRuns
+pub mod QuietTurns

@@ -5,3 +5,4 @@ pub mod Steps
 pub mod Paused
 pub mod Runs
 pub mod Rules
+pub mod Quiet

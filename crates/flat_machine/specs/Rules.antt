@@ -17,5 +17,5 @@ flat_rules = record {
   asks = asks;
   turn = λ input m. turned (turn input m);
   fed = λ m bytes. record m { memory = put_bytes m.memory (register m 11) bytes };
-  may_lack = false;
+  may_lack = λ m. false;
 }

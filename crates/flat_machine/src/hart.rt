@@ -1,9 +1,12 @@
 // The machine between two turns, and the ways in which an instruction changes it.
-ghost use Rattle.std.specs.Prelude.{◌≡◌, ◌+◌, ◌<◌, true, length, Some, is_some};
+ghost use Rattle.std.specs.Prelude.{◌≡◌, ◌+◌, ◌<◌, ◌≤◌, true, length, Some, is_some};
 ghost use Rattle.flat_spec.specs.Stores.{bytes_from, can_store, loaded, put_bytes, stored};
 ghost use Rattle.flat_spec.specs.Machine.{register, gives, passes, ends, faults, jumps, loads, stores};
+ghost use Rattle.machine_run.specs.Machines.{GoesQuietly};
+ghost use Rattle.flat_machine.specs.Rules.{flat_rules};
 ghost use Rattle.flat_machine.specs.Seen.{begun};
 
+use crate::quiet::take_turns;
 use flat_mem::FlatMem;
 use machine_spec::{Ending, FaultKind};
 use rv_isa::Width;
@@ -84,6 +87,16 @@ impl Hart {
     {
         self.registers[rd as usize] = value;
         self.pc = self.pc.wrapping_add(4);
+    }
+
+    /// Takes at most so many turns that neither read, write nor end, and answers how many.
+    pub fn take_quiet_turns(&mut self, most: u32) -> u32
+        requires { self.old.ending ≡ Ending.Running }
+        ensures within { result ≤ most }
+        ensures turns { GoesQuietly flat_rules result self.old self.new }
+        ensures runs { self.new.ending ≡ Ending.Running }
+    {
+        take_turns(&mut self.mem, &mut self.registers, &mut self.pc, most)
     }
 
     pub fn passes(&mut self)

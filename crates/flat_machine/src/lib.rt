@@ -6,6 +6,7 @@ mod as_machine;
 mod calling;
 mod hart;
 mod machine;
+mod quiet;
 mod running;
 
 pub use machine::{Flat, start};

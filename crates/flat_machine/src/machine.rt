@@ -4,9 +4,10 @@ ghost use Rattle.elf_spec.specs.Records.{e_entry};
 ghost use Rattle.machine_spec.specs.Memory.{memory_of};
 ghost use Rattle.flat_spec.specs.Machine.{Machine, register, start as start_of};
 ghost use Rattle.flat_spec.specs.Turns.{turn};
-ghost use Rattle.machine_run.specs.Machines.{Asks};
+ghost use Rattle.machine_run.specs.Machines.{Asks, GoesQuietly};
 ghost use Rattle.machine_run.specs.Steps.{answer_to, IsWholeRead};
 ghost use Rattle.flat_machine.specs.Asks.{asks, IsAtRead};
+ghost use Rattle.flat_machine.specs.Rules.{flat_rules};
 ghost use Rattle.flat_machine.specs.Seen.{between, begun, fed_with, FedMore, Completed};
 ghost use Rattle.flat_machine.specs.Steps.{Pauses, StepsTo};
 
@@ -66,6 +67,18 @@ impl Flat {
         let stepped = self.hart.step();
         self.pause = pause_of(stepped);
         stepped
+    }
+
+    /// Takes at most so many steps that neither read, write nor end, and answers how many.
+    pub(crate) fn take_quiet_steps(&mut self, most: u32) -> u32
+        requires { self.old.machine.ending ≡ Ending.Running }
+        ensures within { result ≤ most }
+        ensures turns { GoesQuietly flat_rules result self.old.machine self.new.machine }
+        ensures goes { self.new.waits ≡ None }
+        ensures runs { self.new.machine.ending ≡ Ending.Running }
+    {
+        self.pause = Pause::Nothing;
+        self.hart.take_quiet_turns(most)
     }
 
     /// Puts the next piece of the input into the buffer of the read at which the machine waits.

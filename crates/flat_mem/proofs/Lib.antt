@@ -5,3 +5,4 @@ pub mod Copies
 pub mod Numbers
 pub mod Built
 pub mod Apart
+pub mod Keeping

@@ -10,7 +10,9 @@ ghost use Rattle.elf_read.specs.Readable.{IsLoadedInside};
 ghost use Rattle.flat_mem.specs.Areas.{ranges, FillsFrom};
 
 use crate::area::Area;
+use crate::decoding::empty_table;
 use crate::memory::FlatMem;
+use crate::storage::Storage;
 use bitflags::Flags;
 use elf_read::{Elf, Segment, SegmentFlags, readable_files_keep_their_facts};
 use std::alloc::{AllocError, Global};
@@ -124,7 +126,7 @@ fn add_stack(areas: &mut Vec<Area>, bytes: &mut Vec<u8>) -> Result<(), AllocErro
 
 /// The memory with which a file starts: the loaded segments with zero bytes behind their file parts,
 /// and the stack. `elf` is what was read from `file`. All memory is taken here, in one buffer of at most
-/// 129 MiB and one list.
+/// 129 MiB and two lists.
 pub fn load(alloc: Global, elf: &Elf, file: &[u8]) -> Result<FlatMem, AllocError>
     requires read { elf.now ≡ elf_of file.now }
     requires readable { IsReadable file.now }
@@ -138,5 +140,7 @@ pub fn load(alloc: Global, elf: &Elf, file: &[u8]) -> Result<FlatMem, AllocError
         add_segment(&mut areas, &mut bytes, segment, file)?;
     }
     add_stack(&mut areas, &mut bytes)?;
-    Ok(FlatMem::new(areas, bytes))
+    let storage = Storage::new(areas, bytes);
+    let table = empty_table(alloc)?;
+    Ok(FlatMem::with_table(storage, table))
 }

@@ -1,15 +1,15 @@
-// The memory with its public calls, each over the list of areas and the buffer of their bytes.
+// The memory with its public calls: where its bytes stand, and a table of words of its code that are decoded.
 
-ghost use Rattle.std.specs.Prelude.{◌≡◌, ◌+◌, true, length, Some, is_some, if◌then◌else◌};
+ghost use Rattle.std.specs.Prelude.{◌≡◌, ◌+◌, true, length, Some, IfSome, is_some, if◌then◌else◌};
+ghost use Rattle.rv_isa.specs.Encoded.{NamesRegisters};
 ghost use Rattle.machine_spec.specs.Memory.{byte_of, range_at};
 ghost use Rattle.flat_spec.specs.Stores.{allows_store, bytes_from, can_store, fetched, loaded, put_byte, put_bytes, stored};
-ghost use Rattle.flat_mem.specs.Areas.{ranges, IsLaidOut};
 ghost use Rattle.flat_mem.specs.Calls.{Stores};
+ghost use Rattle.flat_mem.specs.Decoded.{instr_at, IsKnown, IsTable};
 
-use crate::accesses::{fetch_in, get_in, load_in, set_in, store_in};
-use crate::area::{Access, Area, allows_all};
-use crate::pieces::{copy_in, put_in};
-use rv_isa::Width;
+use crate::decoding::{Known, is_fixed, look_up, place_of};
+use crate::storage::Storage;
+use rv_isa::{Instr, Width, decode};
 use std::marker::Model;
 
 /// The memory of the flat machine, which contracts see as its ranges with their bytes, in the order of
@@ -17,37 +17,36 @@ use std::marker::Model;
 /// address fails. No call takes memory of the host.
 #[derive(Debug, Drop)]
 pub struct FlatMem {
-    areas: Vec<Area>,
-    bytes: Vec<u8>,
+    storage: Storage,
+    table: Vec<Known>,
 }
 
 impl Model for FlatMem {
     ghost use Rattle.std.specs.Prelude.{List};
     ghost use Rattle.machine_spec.specs.Memory.{Range};
+    ghost use Rattle.flat_mem.specs.Decoded.{IsTable};
 
     ghost Value = { List Range };
 
-    ghost use Rattle.flat_mem.specs.Areas.{ranges, IsLaidOut};
+    ghost view = { λ m. m.storage };
 
-    ghost view = { λ m. ranges m.areas.items m.bytes.items };
-
-    ghost invariant = { λ m. IsLaidOut m.areas.items m.bytes.items };
+    ghost invariant = { λ m. IsTable m.storage m.table.items };
 }
 
 impl FlatMem {
-    /// Memory whose areas stand in a buffer of their bytes.
-    pub(crate) fn new(areas: Vec<Area>, bytes: Vec<u8>) -> FlatMem
-        requires { IsLaidOut areas.items bytes.items }
-        ensures { result ≡ ranges areas.items bytes.items }
+    /// Memory with a table of words of its code.
+    pub(crate) fn with_table(storage: Storage, table: Vec<Known>) -> FlatMem
+        requires { IsTable storage table.items }
+        ensures { result ≡ storage }
     {
-        FlatMem { areas, bytes }
+        FlatMem { storage, table }
     }
 
     /// The byte at an address; none exactly outside memory.
     pub fn get(&self, addr: u32) -> Option<u8>
         ensures { result ≡ byte_of self.now addr }
     {
-        get_in(&self.areas, &self.bytes, addr)
+        self.storage.get(addr)
     }
 
     /// Stores a byte. False exactly where the address is outside memory or in a range that can't be
@@ -56,7 +55,7 @@ impl FlatMem {
         ensures answer { result ≡ allows_store (range_at self.old addr) }
         ensures memory { self.new ≡ (if result then put_byte self.old addr byte else self.old) }
     {
-        set_in(&self.areas, &mut self.bytes, addr, byte)
+        self.storage.set(addr, byte)
     }
 
     /// The word of code at an address, lowest byte first; none exactly where the address is no multiple
@@ -64,7 +63,53 @@ impl FlatMem {
     pub fn fetch(&self, addr: u32) -> Option<u32>
         ensures { result ≡ fetched self.now addr }
     {
-        fetch_in(&self.areas, &self.bytes, addr)
+        self.storage.fetch(addr)
+    }
+
+    /// The instruction that the word of code at an address is; none exactly where `fetch` or `decode` gives
+    /// none. It is kept where no byte of the word can be stored to, and found again by the address.
+    #[inline(always)]
+    pub fn instruction(&mut self, addr: u32) -> Option<Instr>
+        ensures is { result ≡ instr_at self.old addr }
+        ensures registers { IfSome result NamesRegisters }
+        ensures memory { self.new ≡ self.old }
+    {
+        let known = look_up(&self.table, addr);
+        if known.addr == addr {
+            known.instr
+        } else {
+            self.decode_anew(addr)
+        }
+    }
+
+    /// The instruction at an address, which is kept where the word can't change.
+    #[inline(never)]
+    fn decode_anew(&mut self, addr: u32) -> Option<Instr>
+        ensures is { result ≡ instr_at self.old addr }
+        ensures registers { IfSome result NamesRegisters }
+        ensures memory { self.new ≡ self.old }
+    {
+        let instr = self.decode_at(addr);
+        if is_fixed(&self.storage, addr) {
+            self.keep(Known { addr, instr });
+        }
+        instr
+    }
+
+    /// What the word of code at an address is decoded to.
+    fn decode_at(&self, addr: u32) -> Option<Instr>
+        ensures is { result ≡ instr_at self.now addr }
+        ensures registers { IfSome result NamesRegisters }
+    {
+        decode(self.fetch(addr)?)
+    }
+
+    /// Keeps what a word is in the place of its address.
+    fn keep(&mut self, known: Known)
+        requires { IsKnown self.old known }
+        ensures { self.new ≡ self.old }
+    {
+        self.table[place_of(known.addr)] = known;
     }
 
     /// What a load of this width makes of the bytes at an address; none exactly where the address is no
@@ -72,7 +117,7 @@ impl FlatMem {
     pub fn load_number(&self, width: Width, addr: u32) -> Option<u32>
         ensures { result ≡ loaded self.now width addr }
     {
-        load_in(&self.areas, &self.bytes, width, addr)
+        self.storage.load_number(width, addr)
     }
 
     /// Stores the lowest bytes of a value. False exactly where the address is no multiple of the width
@@ -80,22 +125,21 @@ impl FlatMem {
     pub fn store_number(&mut self, width: Width, addr: u32, value: u32) -> bool
         ensures { Stores result (stored self.old width addr value) self.old self.new }
     {
-        store_in(&self.areas, &mut self.bytes, width, addr, value)
+        self.storage.store_number(width, addr, value)
     }
 
     /// Whether each of `len` addresses from one on can be stored to.
     pub fn can_store(&self, addr: u32, len: u32) -> bool
         ensures { result ≡ can_store self.now addr len }
     {
-        allows_all(&self.areas, Access::Store, addr, len)
+        self.storage.can_store(addr, len)
     }
 
     /// Whether each of `len` addresses from one on is in memory.
-    #[tactic(auto, using(crate::proofs::Copies::bytes_there))]
     pub fn holds(&self, addr: u32, len: u32) -> bool
         ensures { result ≡ is_some (bytes_from self.now addr len) }
     {
-        allows_all(&self.areas, Access::Load, addr, len)
+        self.storage.holds(addr, len)
     }
 
     /// Copies the bytes from byte `from` of a buffer at an address on, as many as `into` has.
@@ -103,12 +147,7 @@ impl FlatMem {
         requires { is_some (bytes_from self.now (addr + from) (length into.old)) ≡ true }
         ensures { bytes_from self.now (addr + from) (length into.old) ≡ Some into.new }
     {
-        copy_in(
-            &self.areas,
-            &self.bytes,
-            addr as usize + from as usize,
-            into,
-        )
+        self.storage.copy_to(addr, from, into);
     }
 
     /// Stores bytes from byte `from` of a buffer at an address on.
@@ -116,11 +155,6 @@ impl FlatMem {
         requires { can_store self.old (addr + from) (length bytes.now) ≡ true }
         ensures { self.new ≡ put_bytes self.old (addr + from) bytes.now }
     {
-        put_in(
-            &self.areas,
-            &mut self.bytes,
-            addr as usize + from as usize,
-            bytes,
-        )
+        self.storage.put(addr, from, bytes);
     }
 }

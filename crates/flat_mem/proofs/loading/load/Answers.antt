@@ -49,8 +49,8 @@ add_stack-requires-clause-room c =
     let m : memory_size c.as_slice-segments.result.now ≤ 134217728 = rw same facts.memory in
     omega (arith, m, c.loop-segment.invariant.long, taken_less load_size c.as_slice-segments.result.now c.loop-segment.segment-index)
 
-pub new-requires : goal.new-requires
-new-requires c =
+pub new-storage-requires : goal.new-storage-requires
+new-storage-requires c =
     let facts : ReadableFacts c.args.file.now = c.readable_files_keep_their_facts.ensures c.args.file.now c.requires.readable in
     let same : c.as_slice-segments.result.now ≡ segments_of c.args.file.now = c.as_slice-segments.ensures ∙ ap (λ (e : Elf). e.segments) c.requires.read in
     let all : take c.loop-segment.segment-index c.as_slice-segments.result.now ≡ c.as_slice-segments.result.now = take_all _ _ c.loop-segment-test.false in
@@ -62,6 +62,10 @@ pub returns : goal.returns
 returns c =
     let same : c.as_slice-segments.result.now ≡ segments_of c.args.file.now = c.as_slice-segments.ensures ∙ ap (λ (e : Elf). e.segments) c.requires.read in
     let all : take c.loop-segment.segment-index c.as_slice-segments.result.now ≡ c.as_slice-segments.result.now = take_all _ _ c.loop-segment-test.false in
-    c.new.ensures
+    c.with_table.ensures
+    ∙ c.new-storage.ensures
     ∙ memory_whole c.args.file.now c.as_slice-segments.result.now (ranges c.loop-segment.areas.items c.loop-segment.bytes.items) (ranges c.add_stack.new.areas.items c.add_stack.new.bytes.items)
     same (rw all at c.loop-segment.invariant.so_far) c.in_ok-add_stack.ensures.ranges
+
+pub with_table-requires : goal.with_table-requires
+with_table-requires c = c.in_ok-table.ensures _
