@@ -6,3 +6,4 @@ pub mod HeapActions
 pub mod SymTurns
 pub mod SymRuns
 pub mod SymNotes
+pub mod Contexts
