@@ -1,0 +1,21 @@
+-- Lemmas on what is found at addresses, buffers, blocks, steps and runs.
+pub mod HeapWords
+pub mod Masks
+pub mod Registers
+pub mod Finding
+pub mod Lives
+pub mod Placed
+pub mod Outcomes
+pub mod Done
+pub mod Forgetting
+pub mod Quiet
+pub mod Served
+pub mod Names
+pub mod Reaching
+pub mod Filling
+pub mod EmptyReads
+pub mod Reading
+pub mod Feeding
+pub mod Stepping
+pub mod ByRules
+pub mod SameRuns

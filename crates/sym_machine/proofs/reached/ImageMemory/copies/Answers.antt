@@ -1,0 +1,15 @@
+use Rattle.std.proofs.Common.{sym, subst}
+use Rattle.sym_memory.specs.Held.{Held}
+use Rattle.sym_machine.specs.Reached.{IsOfFile}
+use Rattle.sym_machine.specs.Placing.{HasPlaces}
+use Rattle.sym_machine.proofs.Lives.{copy_keeps}
+use Rattle.sym_machine.proofs.reached.ImageMemory.copies.Goals as goal
+
+pub invariant_of-self : goal.invariant_of-self
+invariant_of-self c = (
+  subst (λ (h : Held). IsOfFile c.self.inside.image.now h.parts h.end) (sym c.copy_block.ensures) c.self.invariant.0,
+  subst (λ (h : Held). HasPlaces c.self.inside.image.now c.self.inside.plan.now c.self.inside.places h.memory
+      c.self.inside.at.items) (sym c.copy_block.ensures)
+      (copy_keeps c.self.inside.image.now c.self.inside.plan.now c.self.inside.places c.self.inside.held.memory
+      c.self.inside.at.items c.args.from c.args.to c.self.invariant.1),
+)
