@@ -1,0 +1,11 @@
+mod Stores
+mod Lists
+mod Keeps
+mod HeapTurns
+mod Sites
+mod Bits
+mod Blocks
+mod Requests
+mod Names
+mod Owners
+mod Next
