@@ -1,0 +1,6 @@
+mod Bits
+mod Finding
+mod Stacks
+mod Steps
+mod Contexts
+mod Runs
