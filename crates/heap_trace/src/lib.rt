@@ -1,0 +1,13 @@
+// The shadow stack of a run, the contexts and the events of its steps, and its profile.
+#![tactic(auto)]
+
+mod contexts;
+mod laws;
+mod profiles;
+mod recording;
+mod stack;
+mod trace;
+
+pub use laws::runs_have_legal_events;
+pub use profiles::{ProfileEnd, Profiled, profile_run};
+pub use trace::Trace;
