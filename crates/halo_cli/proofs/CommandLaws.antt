@@ -1,5 +1,5 @@
 -- What holds of every command: it comes to one ending, and does what the table of statuses says.
-use Rattle.std.proofs.Common.{◌≡◌, ◌≤◌, ◌⊎◌, inl, inr, ℕ, List, refl, sym, ap, arith}
+use Rattle.std.proofs.Common.{◌≡◌, ◌≤◌, ◌⊎◌, inl, inr, ℕ, List, refl, sym, ap, subst, arith}
 use Rattle.halo_outside.specs.Seen.{Contents, FilesSeen}
 use Rattle.endings.specs.declared.endings.Ending.{Ending}
 use Rattle.endings.specs.declared.endings.Ending.TheVariants.{Done, File, Plan, Profile, ReadFault, Memory, Exited}
@@ -16,7 +16,7 @@ MayWrite ending = (status_of ending ≡ 0) ⊎ (70 ≤ status_of ending)
 
 -- the statuses at which input and out are as before
 abbrev pub IsSilent : Ending → Type 0
-IsSilent ending = (status_of ending ≡ 65) ⊎ (status_of ending ≡ 66) ⊎ (status_of ending ≡ 69)
+IsSilent ending = (status_of ending ≡ 65) ⊎ (status_of ending ≡ 66)
 
 pub record Laws (entry : Entry) : Type 0 where
   -- what was read of what is told brings it to the ending to which that brings it
@@ -35,18 +35,22 @@ pub record Laws (entry : Entry) : Type 0 where
   pub done : (given : Given) (before now : World) (ending : Ending) → status_of ending ≡ 0 → NotesLine before now ending
       → (ending ≡ Done → now.note ≡ before.note) → entry.brings given before.outside now.outside ending
       → entry.leaves given before.outside now.outside ending → entry.done given before now
-  -- a refusal, and want of memory, leave input and out
+  -- a refusal leaves input and out
   pub silent : (given : Given) (before now : Outside) (ending : Ending) → IsSilent ending
       → entry.leaves given before now ending → IsUnmoved before now
+  -- and so does want of memory, unless the command says more of it
+  pub lacks : (given : Given) (before now : Outside) (ending : Ending) → ending ≡ Memory
+      → entry.leaves given before now ending → IsUnmoved before now ⊎ entry.lacks given before now
 
 not_written : (ending : Ending) → IsSilent ending → IsStop ending
 not_written (File why) one = (λ e. cc, λ e. cc)
 not_written (Plan why) one = (λ e. cc, λ e. cc)
 not_written (Profile why) one = (λ e. cc, λ e. cc)
-not_written Memory one = (λ e. cc, λ e. cc)
 not_written ending (inl is) = absurd (omega arith)
-not_written ending (inr (inl is)) = absurd (omega arith)
-not_written ending (inr (inr is)) = absurd (omega arith)
+not_written ending (inr is) = absurd (omega arith)
+
+lacking_is_no_write : (ending : Ending) → ending ≡ Memory → IsStop ending
+lacking_is_no_write ending is = subst IsStop (sym is) (λ e. cc, λ e. cc)
 
 -- a command that writes one text
 module _ (word : List ℕ) (reads : Given → List FileRead) (Comes : Given → Contents → Ending → Type 0)
@@ -81,4 +85,6 @@ module _ (word : List ℕ) (reads : Given → List FileRead) (Comes : Given → 
     done = λ given before now ending success line quiet brings leaves.
         text_done given before now ending success quiet brings leaves;
     silent = λ given before now ending one leaves. (leaves.input, leaves.silent (not_written ending one));
+    lacks = λ given before now ending is leaves.
+        inl (leaves.input, leaves.silent (lacking_is_no_write ending is));
   }

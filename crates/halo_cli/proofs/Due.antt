@@ -9,6 +9,7 @@ use Rattle.halo_cli.specs.World.{Outside, OnlyMoves}
 use Rattle.halo_cli.specs.Entry.{Entry}
 use Rattle.halo_cli.specs.Rewrite.{rewrite_entry}
 use Rattle.halo_cli.specs.Run.{run_entry}
+use Rattle.halo_cli.specs.Symbols.{symbols_entry}
 use Rattle.halo_cli.specs.Show.{show_entry}
 use Rattle.halo_cli.specs.Generate.{gen_entry}
 use Rattle.halo_cli.specs.Options.{Policies}
@@ -20,8 +21,10 @@ use Rattle.halo_words.specs.Stops.{StopsFor}
 use Rattle.halo_cli.specs.Stops.{stop_ending}
 use Rattle.halo_cli.specs.Ends.{EndsOf, LineEnds}
 use Rattle.halo_cli.proofs.CommandLaws.{Laws}
-use Rattle.halo_cli.proofs.RewriteDue.{TextsOnce, rewrite_laws}
+use Rattle.halo_cli.proofs.PlanAndFileDue.{TextsOnce}
+use Rattle.halo_cli.proofs.RewriteDue.{rewrite_laws}
 use Rattle.halo_cli.proofs.RunDue.{run_laws}
+use Rattle.halo_cli.proofs.SymbolsDue.{symbols_laws}
 use Rattle.halo_cli.proofs.ShowDue.{show_laws}
 use Rattle.halo_cli.proofs.GenDue.{gen_laws}
 use Rattle.halo_cli.proofs.PlanDue.{ProfilesOnce, plan_laws}
@@ -33,6 +36,7 @@ no_laws = record {
   lacking = λ given before now brings. absurd brings;
   done = λ given before now ending success line quiet brings leaves. absurd brings;
   silent = λ given before now ending one leaves. absurd leaves;
+  lacks = λ given before now ending is leaves. absurd leaves;
 }
 
 laws_if : (test : Bool) (entry other : Entry) → Laws entry → Laws other → Laws (entry_if test entry other)
@@ -42,11 +46,14 @@ laws_if false entry other laws others = others
 pub laws_named : TextsOnce → (word : List ℕ) → Laws (entry_named entries word)
 laws_named once word =
     laws_if (bytes_eq rewrite_entry.word word) rewrite_entry
-    (entry_named (run_entry ∷ show_entry ∷ gen_entry ∷ []) word)
+    (entry_named (run_entry ∷ symbols_entry ∷ show_entry ∷ gen_entry ∷ []) word)
     (rewrite_laws once)
-    (laws_if (bytes_eq run_entry.word word) run_entry (entry_named (show_entry ∷ gen_entry ∷ []) word) run_laws
+    (laws_if (bytes_eq run_entry.word word) run_entry (entry_named (symbols_entry ∷ show_entry ∷ gen_entry ∷ []) word)
+    run_laws
+    (laws_if (bytes_eq symbols_entry.word word) symbols_entry (entry_named (show_entry ∷ gen_entry ∷ []) word)
+    (symbols_laws once)
     (laws_if (bytes_eq show_entry.word word) show_entry (entry_named (gen_entry ∷ []) word) show_laws
-    (laws_if (bytes_eq gen_entry.word word) gen_entry no_entry gen_laws no_laws)))
+    (laws_if (bytes_eq gen_entry.word word) gen_entry no_entry gen_laws no_laws))))
 
 pub laws_of : TextsOnce → ProfilesOnce → (policies : Policies) (asked : Asked) → Laws (entry_in policies asked)
 laws_of texts profiles policies asked =
@@ -83,7 +90,8 @@ among (first ∷ rest) word shape found = by (bytes_eq first.word word) refl (am
     by false test later = inr (later (rw test at found))
 
 pub is_command : (words : List (List ℕ)) (asked : Asked) → AsksFor the_table words asked
-    → (asked.word ≡ codes "rewrite") ⊎ (asked.word ≡ codes "run") ⊎ (asked.word ≡ codes "plan")
+    → (asked.word ≡ codes "rewrite") ⊎ (asked.word ≡ codes "run") ⊎ (asked.word ≡ codes "symbols")
+    ⊎ (asked.word ≡ codes "plan")
     ⊎ (asked.word ≡ codes "show") ⊎ (asked.word ≡ codes "gen") ⊎ ⊥
 unfolding the_table
 is_command words asked asks = among the_table asked.word asks.shape asks.command

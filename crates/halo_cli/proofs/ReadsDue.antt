@@ -22,7 +22,7 @@ within limit len P Q fits holds =
     let test : nat_lt limit len ≡ false = grind (arith, nat_tests) in
     subst (λ (b : Bool). MatchBool b P Q) (sym test) holds
 
-of_within : (limit len : ℕ) (P Q : Type 0) → len ≤ limit → MatchBool (nat_lt limit len) P Q → Q
+pub of_within : (limit len : ℕ) (P Q : Type 0) → len ≤ limit → MatchBool (nat_lt limit len) P Q → Q
 of_within limit len P Q fits holds =
     let test : nat_lt limit len ≡ false = grind (arith, nat_tests) in subst (λ (b : Bool). MatchBool b P Q) test holds
 
@@ -37,16 +37,6 @@ IsDecided ending = ⊥
 
 pub decided_as : (ending other : Ending) → ending ≡ other → IsDecided other → IsDecided ending
 decided_as ending other is decided = subst IsDecided (sym is) decided
-
--- no program exits there
-pub no_exit : (exit steps : ℕ) → (Exited exit steps ≡ ReadFault) ⊎ IsDecided (Exited exit steps) → ⊥
-no_exit exit steps (inl is) = cc
-no_exit exit steps (inr decided) = decided
-
--- no word is wrong there
-pub no_usage : (place : ℕ) → (Usage place ≡ ReadFault) ⊎ IsDecided (Usage place) → ⊥
-no_usage place (inl is) = cc
-no_usage place (inr decided) = decided
 
 -- an ending to which what was read brings the command, or want of memory, has its cause
 pub has_cause : (Brings : Ending → Type 0) (before now : FilesSeen) (ending : Ending)
@@ -64,6 +54,24 @@ has_cause Brings before now WriteFault (inl brings) = brings
 has_cause Brings before now (StillRunning steps) (inl brings) = brings
 has_cause Brings before now (Fault kind at steps) (inl brings) = brings
 has_cause Brings before now (Illegal at steps) (inl brings) = brings
+
+-- where more brings a command to an ending, it has its cause, too
+pub cause_weaker : (Brings More : Ending → Type 0) (before now : FilesSeen)
+    → ((ending : Ending) → Brings ending → More ending) → (ending : Ending)
+    → HasReadCause Brings before now ending → HasReadCause More before now ending
+cause_weaker Brings More before now weaker ReadFault (inl rose) = inl rose
+cause_weaker Brings More before now weaker ReadFault (inr brings) = inr (weaker ReadFault brings)
+cause_weaker Brings More before now weaker Memory cause = tt
+cause_weaker Brings More before now weaker Done cause = weaker Done cause
+cause_weaker Brings More before now weaker (Exited exit steps) cause = weaker (Exited exit steps) cause
+cause_weaker Brings More before now weaker (Usage place) cause = weaker (Usage place) cause
+cause_weaker Brings More before now weaker (File why) cause = weaker (File why) cause
+cause_weaker Brings More before now weaker (Plan why) cause = weaker (Plan why) cause
+cause_weaker Brings More before now weaker (Profile why) cause = weaker (Profile why) cause
+cause_weaker Brings More before now weaker WriteFault cause = weaker WriteFault cause
+cause_weaker Brings More before now weaker (StillRunning steps) cause = weaker (StillRunning steps) cause
+cause_weaker Brings More before now weaker (Fault kind at steps) cause = weaker (Fault kind at steps) cause
+cause_weaker Brings More before now weaker (Illegal at steps) cause = weaker (Illegal at steps) cause
 
 -- one more operand of told contents, and the ending where it is longer than its limit
 module _ (limit : ℕ) (long : Ending) (Decide : List ℕ → Ending → Type 0) where

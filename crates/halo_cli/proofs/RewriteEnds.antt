@@ -7,7 +7,8 @@ use Rattle.halo_words.specs.Grammar.{Given, Asked, operand_in}
 use Rattle.halo_cli.specs.World.{OnlyReads, OnlyWrites}
 use Rattle.halo_cli.specs.Reads.{AreFirstReads, HasReadCause}
 use Rattle.halo_cli.specs.Writing.{IsStop}
-use Rattle.halo_cli.specs.Rewrite.{RewriteBrings, RewriteWrites, rewrite_reads}
+use Rattle.halo_cli.specs.PlanAndFile.{both_reads}
+use Rattle.halo_cli.specs.Rewrite.{RewriteBrings, RewriteWrites}
 use Rattle.halo_cli.specs.Ends.{Ends}
 use Rattle.halo_cli.proofs.RewriteDue.{rewrite_never_usage}
 use Rattle.halo_cli.proofs.Stopping.{moves_of, no_write, stop_leaves, stop_cause}
@@ -24,7 +25,7 @@ module _ (plan_name file_name : List ℕ) (given : Given)
       subst (λ n. P n (operand_in given 1)) (sym plan_is) (subst (λ n. P plan_name n) (sym file_is) holds)
 
   pub rewrite_stops : (out : SinkSeen) (ending : Ending) → IsStop ending
-      → AreFirstReads (rewrite_reads plan_name file_name) before now ending
+      → AreFirstReads (both_reads plan_name file_name) before now ending
       → HasReadCause (RewriteBrings plan_name file_name before now) before now ending
       → Ends (asks_rewrite given) (record { files = before; input = input; out = out })
       (record { files = now; input = input; out = out }) ending
@@ -35,13 +36,13 @@ module _ (plan_name file_name : List ℕ) (given : Given)
         (λ place brings. rewrite_never_usage plan_name file_name before now place brings) ending stop.1 cause;
     leaves = stop_leaves _ before now input out ending stop;
     moves = moves_of before now input out out reads (no_write out);
-    reads = at_operands (λ p f. AreFirstReads (rewrite_reads p f) before now ending) first;
+    reads = at_operands (λ p f. AreFirstReads (both_reads p f) before now ending) first;
   }
 
   module _ (old new : SinkSeen) (writes : OnlyWrites old new) (text : List ℕ)
       (fits : RewriteBrings plan_name file_name before now Done)
       (made : RewriteWrites plan_name file_name before now text)
-      (whole_reads : (ending : Ending) → AreFirstReads (rewrite_reads plan_name file_name) before now ending) where
+      (whole_reads : (ending : Ending) → AreFirstReads (both_reads plan_name file_name) before now ending) where
     pub rewrite_done : Appends old.told new.told text
         → Ends (asks_rewrite given) (record { files = before; input = input; out = old })
         (record { files = now; input = input; out = new }) Done
@@ -54,7 +55,7 @@ module _ (plan_name file_name : List ℕ) (given : Given)
         silent = λ stop. absurd (stop.0 refl);
       };
       moves = moves_of before now input old new reads writes;
-      reads = at_operands (λ p f. AreFirstReads (rewrite_reads p f) before now Done) (whole_reads Done);
+      reads = at_operands (λ p f. AreFirstReads (both_reads p f) before now Done) (whole_reads Done);
     }
 
     pub rewrite_cut : Rose old.faults new.faults → AppendsPrefix old.told new.told text
@@ -69,5 +70,5 @@ module _ (plan_name file_name : List ℕ) (given : Given)
         silent = λ stop. absurd (stop.1 refl);
       };
       moves = moves_of before now input old new reads writes;
-      reads = at_operands (λ p f. AreFirstReads (rewrite_reads p f) before now WriteFault) (whole_reads WriteFault);
+      reads = at_operands (λ p f. AreFirstReads (both_reads p f) before now WriteFault) (whole_reads WriteFault);
     }

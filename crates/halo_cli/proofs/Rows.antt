@@ -19,7 +19,7 @@ use Rattle.halo_cli.specs.World.{Outside, World, OnlyMoves}
 use Rattle.halo_cli.specs.Ends.{HasCauseOf, EndsOf, LineEnds, IsFinished}
 use Rattle.halo_cli.specs.Answers.{ToldBring, LineBrings, ReadFailed, OutFailed, NoteFailed, Gives, GivesIfRead, GivesIfRun, Answers}
 use Rattle.halo_cli.proofs.CommandLaws.{MayWrite, Laws}
-use Rattle.halo_cli.proofs.RewriteDue.{TextsOnce}
+use Rattle.halo_cli.proofs.PlanAndFileDue.{TextsOnce}
 use Rattle.halo_cli.proofs.PlanDue.{ProfilesOnce}
 use Rattle.halo_cli.proofs.Valid.{valid_once, wrong_is_not_valid}
 use Rattle.halo_cli.proofs.Due.{laws_of, unmoved_by}
@@ -47,6 +47,10 @@ is_read_fault ending is = absurd (omega arith)
 is_write_fault : (ending : Ending) → status_of ending ≡ 68 → ending ≡ WriteFault
 is_write_fault WriteFault is = refl
 is_write_fault ending is = absurd (omega arith)
+
+is_memory : (ending : Ending) → status_of ending ≡ 69 → ending ≡ Memory
+is_memory Memory is = refl
+is_memory ending is = absurd (omega arith)
 
 is_running : (ending : Ending) → status_of ending ≡ 70 → (steps : ℕ) × (ending ≡ StillRunning steps)
 is_running (StillRunning steps) is = (steps, refl)
@@ -79,7 +83,7 @@ unmoved : (before now : Outside) → now ≡ before → OnlyMoves before now
 unmoved before now same = subst (λ outside. OnlyMoves before outside) (sym same) (unmoved_by before)
 
 -- the table holds of a line that ended, and of the program after it, where words ask for one thing, words with a
--- first wrong one are no line, a plan's text and a file bring `rewrite` to one ending, and a profile's text `plan`
+-- first wrong one are no line, a plan's text has one answer, and a profile's text brings `plan` to one ending
 module _ (texts_once : TextsOnce) (profiles_once : ProfilesOnce)
     (asks_once : (words : List (List ℕ)) (a b : Asked) → AsksFor the_table words a → AsksFor the_table words b → a ≡ b)
     (first_wrong_is_no_line : (words : List (List ℕ)) (place : ℕ) → IsFirstWrong the_table words place
@@ -379,24 +383,42 @@ module _ (texts_once : TextsOnce) (profiles_once : ProfilesOnce)
       let command = asked_by ending ends (λ e. omega (arith, zero, e)) (λ e. omega (arith, zero, e)) in
       (command.0, command.1, done_command command.0 ending zero by.1 command.2 finished)
 
-  silent : (status ≡ 65) ⊎ (status ≡ 66) ⊎ (status ≡ 69) → IsUnmoved before.outside now.outside
+  silent : (status ≡ 65) ⊎ (status ≡ 66) → IsUnmoved before.outside now.outside
   silent one =
       let by = by_status (λ e. not_68 e one) in
-      let which : (status_of ending ≡ 65) ⊎ (status_of ending ≡ 66) ⊎ (status_of ending ≡ 69) =
-      subst (λ s. (s ≡ 65) ⊎ (s ≡ 66) ⊎ (s ≡ 69)) by.0 one in
+      let which : (status_of ending ≡ 65) ⊎ (status_of ending ≡ 66) = subst (λ s. (s ≡ 65) ⊎ (s ≡ 66)) by.0 one in
       at which ends
     where
-      at : (status_of ending ≡ 65) ⊎ (status_of ending ≡ 66) ⊎ (status_of ending ≡ 69)
+      at : (status_of ending ≡ 65) ⊎ (status_of ending ≡ 66)
           → LineEnds policies words before.outside now.outside ending → IsUnmoved before.outside now.outside
       at which (inl (place, is, wrong, same)) = (ap (λ (o : Outside). o.input) same, ap (λ (o : Outside). o.out) same)
       at which (inr (inl (is, line, same))) = (ap (λ (o : Outside). o.input) same, ap (λ (o : Outside). o.out) same)
       at which (inr (inr (asked, asks, command))) =
           (laws asked).silent asked.given before.outside now.outside ending which command.leaves
 
-      not_68 : status ≡ 68 → (status ≡ 65) ⊎ (status ≡ 66) ⊎ (status ≡ 69) → ⊥
+      not_68 : status ≡ 68 → (status ≡ 65) ⊎ (status ≡ 66) → ⊥
       not_68 e (inl is) = omega arith
-      not_68 e (inr (inl is)) = omega arith
-      not_68 e (inr (inr is)) = omega arith
+      not_68 e (inr is) = omega arith
+
+  lacking : status ≡ 69 → IsUnmoved before.outside now.outside
+      ⊎ ((asked : Asked) × Asks policies.names words asked
+      × (entry_in policies asked).lacks asked.given before.outside now.outside)
+  lacking is = at (is_memory ending (sym by.0 ∙ is)) ends
+    where
+      by : (status ≡ status_of ending) × NotesLine before now ending
+      by = by_status (λ e. omega arith)
+
+      at : ending ≡ Memory → LineEnds policies words before.outside now.outside ending
+          → IsUnmoved before.outside now.outside
+          ⊎ ((asked : Asked) × Asks policies.names words asked
+          × (entry_in policies asked).lacks asked.given before.outside now.outside)
+      at found (inl (place, usage, wrong, same)) =
+          inl (ap (λ (o : Outside). o.input) same, ap (λ (o : Outside). o.out) same)
+      at found (inr (inl (lack, line, same))) =
+          inl (ap (λ (o : Outside). o.input) same, ap (λ (o : Outside). o.out) same)
+      at found (inr (inr (asked, asks, command))) =
+          ⊎_elim (λ unmoved. inl unmoved) (λ lacked. inr (asked, asks, lacked))
+          ((laws asked).lacks asked.given before.outside now.outside ending found command.leaves)
 
   moves : LineEnds policies words before.outside now.outside ending → OnlyMoves before.outside now.outside
   moves (inl (place, is, wrong, same)) = unmoved before.outside now.outside same
@@ -434,6 +456,7 @@ module _ (texts_once : TextsOnce) (profiles_once : ProfilesOnce)
     done = done;
     complete = complete;
     silent = silent;
+    lacking = lacking;
     ended = (ending, ends, finished.noted);
     moves = moves ends;
     writes = finished.writes;

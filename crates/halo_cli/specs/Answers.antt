@@ -103,8 +103,12 @@ pub record Answers (policies : Policies) (words : List (List ℕ)) (before now :
   pub complete : (ending : Ending) → status_of ending ≡ 0 → ToldBring policies words before ending
       → (ReadFailed policies words before now → ⊥) → (OutFailed before now → ⊥) → (NoteFailed before now → ⊥)
       → (status ≡ 0) ⊎ (status ≡ 69)
-  -- at 65, 66 and 69 input and out are as before
-  pub silent : (status ≡ 65) ⊎ (status ≡ 66) ⊎ (status ≡ 69) → IsUnmoved before.outside now.outside
+  -- at 65 and 66 input and out are as before
+  pub silent : (status ≡ 65) ⊎ (status ≡ 66) → IsUnmoved before.outside now.outside
+  -- at 69 they are, too, unless a program was running that takes memory as it runs
+  pub lacking : status ≡ 69 → IsUnmoved before.outside now.outside
+      ⊎ ((asked : Asked) × Asks policies.names words asked
+      × (entry_in policies asked).lacks asked.given before.outside now.outside)
   -- the line ended in one way, which says what input and out are; note has its line, or failed after a part of it
   pub ended : (ending : Ending) × LineEnds policies words before.outside now.outside ending
       × IsNoted ending before.note now.note status

@@ -7,13 +7,14 @@ use Rattle.halo_cli.specs.Entry.{Entry}
 use Rattle.halo_cli.specs.Options.{Policies}
 use Rattle.halo_cli.specs.Rewrite.{rewrite_entry}
 use Rattle.halo_cli.specs.Run.{run_entry}
+use Rattle.halo_cli.specs.Symbols.{symbols_entry}
 use Rattle.halo_cli.specs.Show.{show_entry}
 use Rattle.halo_cli.specs.Generate.{gen_entry}
 use Rattle.halo_cli.specs.Plan.{plan_entry}
 
 -- the commands that use no policy
 abbrev pub entries : List Entry
-entries = rewrite_entry ∷ run_entry ∷ show_entry ∷ gen_entry ∷ []
+entries = rewrite_entry ∷ run_entry ∷ symbols_entry ∷ show_entry ∷ gen_entry ∷ []
 
 -- all commands
 abbrev pub all_entries : Policies → List Entry
@@ -29,6 +30,7 @@ no_entry = record {
   leaves = λ given before now ending. ⊥;
   started = λ given before now. ⊥;
   fails = λ given before now. ⊥;
+  lacks = λ given before now. ⊥;
   done = λ given before now. ⊥;
 }
 

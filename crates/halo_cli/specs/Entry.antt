@@ -23,6 +23,8 @@ pub record Entry : Type 1 where
   pub started : Given → Outside → Outside → Type 0
   -- a read of it failed: of a file, or of the input of a program that runs
   pub fails : Given → Outside → Outside → Type 0
+  -- what it did to input and out where memory was wanting for more than what it reads and makes
+  pub lacks : Given → Outside → Outside → Type 0
   -- what stands after it is done
   pub done : Given → World → World → Type 0
 
@@ -37,5 +39,6 @@ text_entry word reads Comes Brings Writes = record {
   leaves = λ given before now ending. WritesOnce (Writes given before.files now.files) before now ending;
   started = λ given before now. Brings given before.files now.files Done;
   fails = λ given before now. Rose before.files.faults now.files.faults;
+  lacks = λ given before now. ⊥;
   done = λ given before now. IsWritten (Writes given before.outside.files now.outside.files) before now;
 }

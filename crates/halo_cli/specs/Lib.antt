@@ -5,8 +5,11 @@ pub mod Writing
 pub mod Entry
 pub mod Options
 pub mod Valid
+pub mod PlanAndFile
 pub mod Rewrite
+pub mod Runs
 pub mod Run
+pub mod Symbols
 pub mod Show
 pub mod Generate
 pub mod Plan

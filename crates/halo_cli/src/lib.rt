@@ -15,14 +15,17 @@ mod line;
 mod note;
 mod options;
 mod plan;
+mod plan_and_file;
 mod rewrite;
 mod run;
 mod show;
+mod symbols;
 
 use group_policy::{Cut, Policy, Rule};
 use halo_outside::{Files, Sink, Source};
 use halo_words::{words_ask_for_one_thing, words_with_a_wrong_one_are_no_line};
 pub use headline::{new_files_are_taken_by_run, new_files_do_the_same};
+use plan_core::a_text_has_one_answer;
 use std::alloc::Global;
 
 /// Runs the program on the words of its command line, without its own name, and gives the status with
@@ -35,6 +38,10 @@ use std::alloc::Global;
 /// `input` and its output to `out`. N is from 0 to 4294967295, and 100000000 where it isn't given. All
 /// memory is taken before the machine starts. The file may be any 32-bit ELF executable for RISC-V that
 /// `elf_read` reads.
+///
+/// `symbols [--steps N] PLAN FILE` runs the file under the plan on the symbol machine, with the program's input from
+/// `input` and its output to `out`. It takes the files that `exec_image` accepts and the plans that fit them; the plan
+/// is read first. Memory for the program's blocks is taken while it runs.
 ///
 /// `plan [OPTION].. PROFILE` writes the text of a plan of the profile to `out`. The policy makes groups of the
 /// profile's contexts, and the plan has the rows and sites that tell them from the other contexts. The input isn't
@@ -60,8 +67,8 @@ use std::alloc::Global;
 ///
 /// The statuses, each with its line and when it comes:
 ///
-/// - 0, no line, or of `run` `exit S after N steps`: the command is done; the program exits with status S at
-///   step N.
+/// - 0, no line, or of `run` and `symbols` `exit S after N steps`: the command is done; the program exits with status
+///   S at step N.
 /// - 64, `halo: usage: word K`: the words are no line. K is the place, from 0, of the first wrong word, or the
 ///   number of words. A policy's name that isn't listed and then an area that is too large are found last: the first
 ///   at the name, or the number of words where the name is the default, the second at the number of words.
@@ -75,7 +82,7 @@ use std::alloc::Global;
 /// - 69, `halo: out of memory`: there was no memory.
 /// - 70, `halo: still running after N steps`: the program runs longer.
 /// - 71, `halo: fault KIND at ADDR after N steps`: the program meets an address fault: F1 an access, F3 a jump,
-///   F6 a fetch.
+///   F6 a fetch; of `symbols` also F2 a branch, F4 a system call and F5 a heap function.
 /// - 72, `halo: illegal at ADDR after N steps`: the program comes to a word that is no instruction to be run.
 pub fn halo<F: Files, I: Source, O: Sink, N: Sink>(
     alloc: Global,
@@ -94,7 +101,7 @@ pub fn halo<F: Files, I: Source, O: Sink, N: Sink>(
 {
     words_ask_for_one_thing();
     words_with_a_wrong_one_are_no_line();
-    laws::texts_and_files_come_to_one_ending();
+    a_text_has_one_answer();
     laws::profiles_come_to_one_ending();
     let ending = line::run_line(alloc, words, policies, files, input, out);
     note::finish(note, ending)

@@ -15,6 +15,7 @@ use crate::plan::plan_file;
 use crate::rewrite::rewrite_file;
 use crate::run::run_file;
 use crate::show::show_file;
+use crate::symbols::symbols_file;
 use endings::Ending;
 use group_policy::{Cut, Policy, Rule};
 use halo_outside::{Files, Sink, Source};
@@ -95,6 +96,7 @@ fn run_command<F: Files, I: Source, O: Sink>(
     match values.word() {
         "rewrite" => rewrite_file(alloc, values, files, out),
         "run" => run_file(alloc, values, files, input, out),
+        "symbols" => symbols_file(alloc, values, files, input, out),
         "plan" => plan_file(alloc, values, policies, files, out),
         "show" => show_file(alloc, values, files, out),
         "gen" => generate_file(alloc, values, out),

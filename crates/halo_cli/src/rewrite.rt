@@ -1,18 +1,18 @@
 // `rewrite PLAN FILE`: reads the plan and the file, makes the new file and writes it.
 ghost use Rattle.std.specs.Prelude.{◌≡◌, ◌≤◌, ◌⊎◌, length, codes, IfOk, IfErr};
 ghost use Rattle.halo_outside.specs.Seen.{FilesSeen, SourceSeen, SinkSeen};
-ghost use Rattle.rewriter.specs.Rewrites.{rewrite_refusal};
 ghost use Rattle.endings.specs.declared.endings.Ending.TheVariants.{Done};
 ghost use Rattle.halo_words.specs.Grammar.{Given, operand_in};
 ghost use Rattle.halo_cli.specs.Reads.{AreFirstReads, HasReadCause};
-ghost use Rattle.halo_cli.specs.Rewrite.{AreRead, Makes, RewriteBrings, RewriteWrites, TextComes, rewrite_ending, rewrite_reads};
+ghost use Rattle.halo_cli.specs.PlanAndFile.{both_reads};
+ghost use Rattle.halo_cli.specs.Rewrite.{Makes, RewriteBrings, RewriteWrites, TextRewrites};
 ghost use Rattle.halo_cli.specs.Writing.{IsStop};
 ghost use Rattle.halo_cli.specs.World.{OnlyReads};
 ghost use Rattle.halo_cli.specs.Ends.{Ends};
 
-use crate::limits::{FILE_LIMIT, PLAN_LIMIT};
+use crate::plan_and_file::read_plan_and_file;
 use endings::{BadFile, BadPlan, Ending};
-use halo_outside::{Failed, FileFault, Files, Sink, write_all};
+use halo_outside::{Failed, Files, Sink, write_all};
 use halo_words::Values;
 use plan_core::{PlanRefusal, read_plan};
 use rewriter::{RewriteRefusal, rewrite};
@@ -65,8 +65,8 @@ fn make_new_file<F: Files>(
 ) -> Result<Vec<u8>, Ending>
     ensures reads { OnlyReads (F.seen files.old) (F.seen files.new) }
     ensures whole { IfOk result (λ new. (ending : Ending)
-        → AreFirstReads (rewrite_reads plan_name.now file_name.now) (F.seen files.old) (F.seen files.new) ending) }
-    ensures first { IfErr result (AreFirstReads (rewrite_reads plan_name.now file_name.now)
+        → AreFirstReads (both_reads plan_name.now file_name.now) (F.seen files.old) (F.seen files.new) ending) }
+    ensures first { IfErr result (AreFirstReads (both_reads plan_name.now file_name.now)
         (F.seen files.old) (F.seen files.new)) }
     ensures fits { IfOk result (λ new.
         RewriteBrings plan_name.now file_name.now (F.seen files.old) (F.seen files.new) Done) }
@@ -77,19 +77,10 @@ fn make_new_file<F: Files>(
         (RewriteBrings plan_name.now file_name.now (F.seen files.old) (F.seen files.new))
         (F.seen files.old) (F.seen files.new)) }
 {
-    let text = match files.read(alloc, plan_name, PLAN_LIMIT) {
-        Ok(text) => text,
-        Err(FileFault::Failed) => return Err(Ending::ReadFault),
-        Err(FileFault::TooLong) => return Err(Ending::Plan(BadPlan::TooLong)),
-        Err(FileFault::Memory) => return Err(Ending::Memory),
-    };
-    let file = match files.read(alloc, file_name, FILE_LIMIT) {
-        Ok(file) => file,
-        Err(FileFault::Failed) => return Err(Ending::ReadFault),
-        Err(FileFault::TooLong) => return Err(Ending::File(BadFile::TooLong)),
-        Err(FileFault::Memory) => return Err(Ending::Memory),
-    };
-    new_file(alloc, &text, &file)
+    match read_plan_and_file(alloc, plan_name, file_name, files) {
+        Err(ending) => Err(ending),
+        Ok(both) => new_file(alloc, &both.text, &both.file),
+    }
 }
 
 // The new file of a plan's text and a file, or how the command ends without one.
@@ -97,7 +88,7 @@ fn new_file(alloc: Global, text: &[u8], file: &[u8]) -> Result<Vec<u8>, Ending>
     requires { length file.now ≤ 33554432 }
     ensures made { IfOk result (λ new. Makes text.now file.now new.items) }
     ensures stops { IfErr result IsStop }
-    ensures cause { IfErr result (λ e. TextComes text.now file.now e ⊎ (e ≡ Ending.Memory)) }
+    ensures cause { IfErr result (λ e. TextRewrites text.now file.now e ⊎ (e ≡ Ending.Memory)) }
 {
     let plan = match read_plan(alloc, text) {
         Ok(plan) => plan,

@@ -1,12 +1,11 @@
 // `run [--steps N] FILE`: reads the file and runs it on the flat machine.
-
-ghost use Rattle.std.specs.Prelude.{◌≡◌, [], List, ℕ, None, codes, IfOk, IfErr};
+ghost use Rattle.std.specs.Prelude.{◌≡◌, [], List, ℕ, codes, IfOk, IfErr};
 ghost use Rattle.halo_outside.specs.Seen.{FilesSeen, SourceSeen, SinkSeen};
-ghost use Rattle.elf_read.specs.Refusals.{refusal};
 ghost use Rattle.flat_spec.specs.Machine.{start};
 ghost use Rattle.flat_machine.specs.Seen.{between};
-ghost use Rattle.halo_cli.specs.Reads.{AreFirstReads, HasReadCause, IsRead, run_limit};
-ghost use Rattle.halo_cli.specs.Run.{LoadBrings, IsLoadEnding, run_reads, steps_in};
+ghost use Rattle.halo_cli.specs.Reads.{AreFirstReads, HasReadCause};
+ghost use Rattle.halo_cli.specs.Runs.{IsLoadEnding, steps_in};
+ghost use Rattle.halo_cli.specs.Run.{LoadBrings, Loads, run_reads};
 ghost use Rattle.halo_cli.specs.RunEnds.{ending_of_run};
 ghost use Rattle.halo_cli.specs.World.{OnlyReads};
 ghost use Rattle.halo_cli.specs.Ends.{Ends};
@@ -45,8 +44,8 @@ pub fn run_file<F: Files, I: Source, O: Sink>(
     }
 }
 
-// The number in the value of `--steps`.
-fn steps_of(values: &Values<'_>) -> u32
+/// The number in the value of `--steps`.
+pub fn steps_of(values: &Values<'_>) -> u32
     ensures { result ≡ steps_in values.now.given }
 {
     match number(values.option("steps").as_bytes(), 4_294_967_295) {
@@ -62,8 +61,7 @@ fn load_machine<F: Files>(alloc: Global, name: &str, files: &mut F) -> Result<Fl
         → AreFirstReads (run_reads name.now) (F.seen files.old) (F.seen files.new) ending) }
     ensures first { IfErr result (AreFirstReads (run_reads name.now) (F.seen files.old) (F.seen files.new)) }
     ensures loaded { IfOk result (λ machine. (file : List ℕ)
-        × IsRead name.now run_limit (F.seen files.old) (F.seen files.new) file
-        × (refusal file ≡ None) × (machine ≡ between (start file) [])) }
+        × Loads name.now (F.seen files.old) (F.seen files.new) file × (machine ≡ between (start file) [])) }
     ensures stops { IfErr result IsLoadEnding }
     ensures cause { IfErr result (HasReadCause
         (LoadBrings name.now (F.seen files.old) (F.seen files.new)) (F.seen files.old) (F.seen files.new)) }

@@ -93,10 +93,12 @@ plan_choices = chunks ∷ log ∷ fallback ∷ tolerance ∷ edge ∷ policy ∷
 abbrev pub node_count : Place
 node_count = record { name = codes "N"; kind = Number 1 30000 }
 
--- `rewrite PLAN FILE`, `run [--steps N] FILE`, `plan [OPTION]... PROFILE`, `show FILE` and `gen N`
+-- `rewrite PLAN FILE`, `run [--steps N] FILE`, `symbols [--steps N] PLAN FILE`, `plan [OPTION]... PROFILE`, `show FILE`
+-- and `gen N`
 unfoldable pub the_table : List Shape
 the_table = record { word = codes "rewrite"; choices = []; operands = plan_name ∷ file_name ∷ [] }
     ∷ record { word = codes "run"; choices = steps ∷ []; operands = file_name ∷ [] }
+    ∷ record { word = codes "symbols"; choices = steps ∷ []; operands = plan_name ∷ file_name ∷ [] }
     ∷ record { word = codes "plan"; choices = plan_choices; operands = profile_name ∷ [] }
     ∷ record { word = codes "show"; choices = []; operands = file_name ∷ [] }
     ∷ record { word = codes "gen"; choices = []; operands = node_count ∷ [] } ∷ []

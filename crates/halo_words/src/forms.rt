@@ -115,7 +115,7 @@ const NODES: Operand = Operand {
 };
 
 /// All commands.
-const FORMS: [Form; 5] = [
+const FORMS: [Form; 6] = [
     Form {
         word: "rewrite",
         settings: &[],
@@ -125,6 +125,11 @@ const FORMS: [Form; 5] = [
         word: "run",
         settings: &[STEPS],
         operands: &[FILE],
+    },
+    Form {
+        word: "symbols",
+        settings: &[STEPS],
+        operands: &[PLAN, FILE],
     },
     Form {
         word: "plan",
@@ -145,7 +150,7 @@ const FORMS: [Form; 5] = [
 
 /// The commands are those of the table.
 #[tactic(auto, unfolding(crate::specs::Table::the_table))]
-pub fn all_forms() -> [Form; 5]
+pub fn all_forms() -> [Form; 6]
     ensures { map shape_of result ≡ the_table }
 {
     FORMS

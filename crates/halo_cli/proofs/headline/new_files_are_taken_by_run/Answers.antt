@@ -11,13 +11,14 @@ use Rattle.endings.specs.declared.endings.BadFile.{BadFile}
 use Rattle.endings.specs.declared.endings.BadFile.TheVariants.{Refused}
 use Rattle.endings.specs.declared.endings.Ending.TheVariants.{File}
 use Rattle.halo_cli.specs.Reads.{run_limit}
-use Rattle.halo_cli.specs.Run.{FileRuns, InputEnds, RunComes}
+use Rattle.halo_cli.specs.Runs.{InputEnds}
+use Rattle.halo_cli.specs.Run.{run_of_file, FileRuns, RunComes}
 use Rattle.halo_cli.proofs.ReadsDue.{of_told_comes}
 use Rattle.halo_cli.proofs.headline.new_files_are_taken_by_run.Goals as goal
 
 -- no run ends with a refusal of the file
-no_refusal : (input : Option (List ℕ)) (steps : ℕ) (new : List ℕ) (why : BadFile) → InputEnds input steps new (File why)
-    → ⊥
+no_refusal : (input : Option (List ℕ)) (steps : ℕ) (new : List ℕ) (why : BadFile)
+    → InputEnds input steps (run_of_file new) (File why) → ⊥
 no_refusal None steps new why ends = ends
 no_refusal (Some given) steps new why ends = ends
 
@@ -26,9 +27,9 @@ taken : (file : List ℕ) (plan : Plan) (new : List ℕ) → IsRewritten file pl
     → contents_of contents name ≡ Some new → RunComes steps name contents input (File why) → ⊥
 taken file plan new is alone steps name contents input why told comes =
     no_refusal input steps new why
-    (subst (λ (o : Option ElfRefusal). MatchOption o (InputEnds input steps new (File why))
+    (subst (λ (o : Option ElfRefusal). MatchOption o (InputEnds input steps (run_of_file new) (File why))
     (λ e. File why ≡ File (Refused (Elf e)))) (is.readable alone)
-    (of_told_comes run_limit (λ file. FileRuns file (InputEnds input steps file)) contents name new
+    (of_told_comes run_limit (λ file. FileRuns file (InputEnds input steps (run_of_file file))) contents name new
     (File why) told is.short comes))
 
 pub returns : goal.returns

@@ -12,6 +12,10 @@ pub returns-in-run : goal.returns-in-run
 returns-in-run g c =
     at_word _ c.args.values.now (codes "run") _ _ _ (sym c.word.ensures ∙ c.in-run.is) c.run_file.ensures
 
+pub returns-in-symbols : goal.returns-in-symbols
+returns-in-symbols g c =
+    at_word _ c.args.values.now (codes "symbols") _ _ _ (sym c.word.ensures ∙ c.in-symbols.is) c.symbols_file.ensures
+
 pub plan_file-requires-clause-word : goal.plan_file-requires-clause-word
 plan_file-requires-clause-word g c = sym c.word.ensures ∙ c.in-plan.is
 
@@ -37,7 +41,8 @@ pub unreachable-requires : goal.unreachable-requires
 unreachable-requires g c =
     ⊎_elim (λ is. c.in_default.not-rewrite (c.word.ensures ∙ is))
     (λ rest. ⊎_elim (λ is. c.in_default.not-run (c.word.ensures ∙ is))
+    (λ rest. ⊎_elim (λ is. c.in_default.not-symbols (c.word.ensures ∙ is))
     (λ rest. ⊎_elim (λ is. c.in_default.not-plan (c.word.ensures ∙ is))
     (λ rest. ⊎_elim (λ is. c.in_default.not-show (c.word.ensures ∙ is))
-    (λ rest. ⊎_elim (λ is. c.in_default.not-gen (c.word.ensures ∙ is)) (λ none. none) rest) rest) rest) rest)
+    (λ rest. ⊎_elim (λ is. c.in_default.not-gen (c.word.ensures ∙ is)) (λ none. none) rest) rest) rest) rest) rest)
     (is_command c.requires.asks.0 c.args.values.now c.requires.asks.1)

@@ -10,4 +10,4 @@ returns-in-Ok-load-clause-loaded g c =
     let none : refusal file ≡ None = search rules in
     let memory : c.in-Ok-load.memory ≡ memory_of file = search rules in
     let entry : c.in-Ok-read_elf.elf.entry ≡ e_entry file = search rules in
-    (file, search rules, none, c.start.ensures.file file memory entry)
+    (file, (search rules, none), c.start.ensures.file file memory entry)

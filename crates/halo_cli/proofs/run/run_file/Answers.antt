@@ -1,5 +1,6 @@
 use Rattle.halo_cli.specs.World.{Outside, OnlyMoves}
-use Rattle.halo_cli.proofs.RunEnds.{load_ends, run_ends_from, begins_running}
+use Rattle.halo_cli.proofs.FlatRuns.{flat_ran, begins_running}
+use Rattle.halo_cli.proofs.RunEnds.{load_ends, run_ends}
 use Rattle.halo_cli.proofs.run.run_file.Goals as goal
 
 pub returns-in-Err : goal.returns-in-Err
@@ -32,12 +33,12 @@ returns-in-Ok g c =
       out = record { tells = c.run_flat.ensures.out_tells; later = c.run_flat.ensures.out_later };
     } in
     rw (c.ending_of.ensures, c.steps_of-steps.ensures)
-    (run_ends_from c.args.values.now.given loaded.0 before now
-    c.in-Ok.machine c.run_flat.new.machine c.run_flat.result
-    (rw c.operand.ensures at loaded.1) loaded.2 moves (rw c.operand.ensures at c.in-Ok.ensures.whole) loaded.3
+    (run_ends c.args.values.now.given loaded.0 before now (rw c.operand.ensures at loaded.1) moves
+    (rw c.operand.ensures at c.in-Ok.ensures.whole) _
+    (flat_ran loaded.0 _ before now c.in-Ok.machine c.run_flat.new.machine c.run_flat.result loaded.2
     (rw c.steps_of-steps.ensures at c.run_flat.ensures.run) (rw c.steps_of-steps.ensures at c.run_flat.ensures.ends)
-    c.run_flat.ensures.read_fault c.run_flat.ensures.write_fault)
+    c.run_flat.ensures.read_fault c.run_flat.ensures.write_fault))
 
 pub run_flat-requires-clause-runs : goal.run_flat-requires-clause-runs
 run_flat-requires-clause-runs g c =
-    let loaded = c.in-Ok.ensures.loaded in begins_running loaded.0 c.in-Ok.machine loaded.3
+    let loaded = c.in-Ok.ensures.loaded in begins_running loaded.0 c.in-Ok.machine loaded.2
