@@ -1,12 +1,15 @@
 // The lines of the table: `COMMAND SAMPLE WORD..`, with the lines of a plan behind ` | `. A word `AT=BYTE`
 // sets the byte at an offset of the sample's file to a hexadecimal number, `len=COUNT` cuts the file there or
-// fills it up with zero bytes, and any other word is a hexadecimal address.
+// fills it up with zero bytes, and any other word is an argument of the command.
 ghost use Rattle.std.specs.Prelude.{◌<◌, ◌^◌, length};
 
-use crate::answers::{accepted, described, fields, found, planned, read, related, summarized};
+use crate::images::print_image;
+use crate::lists::print_list;
+use crate::new_files::print_new;
+use crate::readers::{print_fields, print_read, print_relocs};
 use crate::samples::sample;
 use anyhow::bail;
-use std::alloc::Global;
+use std::io;
 
 /// Files of the table are shorter.
 const MOST: usize = 0x200_0000;
@@ -26,48 +29,47 @@ fn change(file: &mut Vec<u8>, at: &str, value: &str) -> anyhow::Result<()> {
     Ok(())
 }
 
-/// The answer of a command about a file; `addresses` and `plan` are what stood in the case's line.
-fn answer_of(
-    alloc: Global,
+/// Makes the changes that a case asks for.
+fn change_all(file: &mut Vec<u8>, case: &str) -> anyhow::Result<()> {
+    for word in case.split_whitespace() {
+        if let Some((at, value)) = word.split_once('=') {
+            change(file, at, value)?;
+        }
+    }
+    Ok(())
+}
+
+/// Prints what a command answers for a file.
+fn print_answer(
+    rt: &HostRuntime,
     command: &str,
     file: &[u8],
-    addresses: &[u32],
+    case: &str,
     plan: &str,
-) -> anyhow::Result<String>
+) -> io::Result<()>
     requires { length file.now < 2 ^ 32 }
 {
     match command {
-        "read" => read(alloc, file),
-        "fields" => fields(alloc, file),
-        "relocs" => related(alloc, file),
-        "accept" => accepted(alloc, file),
-        "image" => described(alloc, file),
-        "show" => summarized(alloc, file),
-        "look" => found(alloc, file, addresses),
-        "plan" => planned(alloc, file, plan),
-        _ => bail!("no such command"),
+        "read" => print_read(rt, file),
+        "fields" => print_fields(rt, file),
+        "relocs" => print_relocs(rt, file),
+        "new" => print_new(rt, file, plan),
+        _ => print_image(rt, command, file, case, plan),
     }
 }
 
-/// The answer of a case.
-pub fn answer(alloc: Global, line: &str) -> anyhow::Result<String> {
-    let (front, plan) = line.split_once(" | ").unwrap_or((line, ""));
-    let mut words = front.split_whitespace();
-    let (Some(command), Some(name)) = (words.next(), words.next()) else {
-        bail!("no case");
-    };
-    let Some(mut file) = sample(alloc, name)? else {
-        bail!("no such sample");
-    };
-    let mut addresses = Vec::new(alloc);
-    for word in words {
-        match word.split_once('=') {
-            Some((at, value)) => change(&mut file, at, value)?,
-            None => addresses.push(u32::from_str_radix(word, 16)?)?,
-        }
+/// Prints the answer of a case.
+pub fn answer(rt: &HostRuntime, line: &str) -> anyhow::Result<()> {
+    let (case, plan) = line.split_once(" | ").unwrap_or((line, ""));
+    let (command, rest) = case.split_once(' ').unwrap_or((case, ""));
+    if command == "list" {
+        return Ok(print_list(rt, rest.split_whitespace())?);
     }
+    let (name, words) = rest.split_once(' ').unwrap_or((rest, ""));
+    let mut file = sample(rt, name)?;
+    change_all(&mut file, words)?;
     if file.len() > MOST {
         bail!("a long file");
     }
-    answer_of(alloc, command, &file, &addresses, plan)
+    Ok(print_answer(rt, command, &file, words, plan)?)
 }

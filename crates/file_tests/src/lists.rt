@@ -1,15 +1,18 @@
-// Lists are made, grown, read and taken apart.
-use std::test::Fail;
+// A list that is made, grown, read and taken apart.
+use std::io;
+use std::str::SplitWhitespace;
 use vec_list::VecList;
 
-#[test]
-fn a_list_has_the_items_that_were_pushed(rt: HostRuntime) -> Result<(), Fail> {
+/// Prints the list of some numbers: when it is empty, when it has them, and when it was taken apart.
+pub fn print_list(rt: &HostRuntime, words: SplitWhitespace) -> io::Result<()> {
     let mut list = VecList::<u32>::new(rt.alloc());
-    assert!(rt; list.as_slice().is_empty());
-    list.push(7)?;
-    list.push(8)?;
-    assert_eq!(rt; list.as_slice(), [7, 8].as_slice());
+    print!(rt; "{:?}", list.as_slice())?;
+    for word in words {
+        if let Ok(number) = word.parse::<u32>() {
+            list.push(number)?;
+        }
+    }
+    print!(rt; " {:?}", list.as_slice())?;
     let list = VecList::from(list.into_vec());
-    assert_eq!(rt; list.into_vec().as_slice(), [7, 8].as_slice());
-    Ok(())
+    println!(rt; " {:?}", list.into_vec().as_slice())
 }

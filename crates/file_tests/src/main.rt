@@ -1,14 +1,13 @@
-// Answers, for a table of small files, what is read of them, whether they are accepted, what is in them and
-// which plans fit them. Each line of the file `cases` is a case, or a comment that begins with `#`; each is
-// printed, and a case's answer behind it.
+// Answers, for a table of small files, what is read of them, whether they are accepted, what is in them, which
+// plans fit them and what is added to them. Each line of the file `cases` is a case, or a comment that begins
+// with `#`; each is printed, and a case's answer behind it.
 #![tactic(auto)]
 
-mod answers;
 mod cases;
-#[cfg(test)]
+mod images;
 mod lists;
-#[cfg(test)]
 mod new_files;
+mod readers;
 mod samples;
 
 use std::fs;
@@ -19,7 +18,8 @@ fn main(rt: HostRuntime) -> anyhow::Result<()> {
         if line.is_empty() || line.starts_with('#') {
             println!(rt; "{line}")?;
         } else {
-            println!(rt; "{line}: {}", cases::answer(rt.alloc(), line)?)?;
+            print!(rt; "{line}: ")?;
+            cases::answer(&rt, line)?;
         }
     }
     Ok(())
