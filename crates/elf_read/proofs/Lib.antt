@@ -3,6 +3,5 @@ pub mod EndedNames
 pub mod Finds
 pub mod Sizes
 pub mod Below
-pub mod SortedSpans
 pub mod TablesInside
 pub mod ReadableFacts

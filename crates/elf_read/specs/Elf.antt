@@ -1,12 +1,12 @@
 -- What a readable file is read as.
-use Rattle.std.specs.Prelude.{◌≡◌, ℕ, ◌<◌, ◌^◌, ◌⊎◌, List, Some, None, length, Result, Ok, Err}
+use Rattle.std.specs.Prelude.{◌≡◌, ℕ, ◌<◌, ◌^◌, List, None, length, Result}
 use Rattle.elf_read.specs.declared.elf_file.Elf.{Elf}
 use Rattle.elf_read.specs.declared.refusals.ElfRefusal.{ElfRefusal}
 use Rattle.elf_read.specs.declared.refusals.ElfRefusal.TheVariants.{Memory}
 use Rattle.elf_spec.specs.Records.{e_entry, e_flags, e_phoff, e_shoff, sections_of, segments_of}
 use Rattle.elf_spec.specs.Tables.{symbols_of}
 use Rattle.elf_read.specs.Readable.{ReadableFacts}
-use Rattle.elf_read.specs.Refusals.{refusal}
+use Rattle.elf_read.specs.Refusals.{GivesOrRefuses, refusal}
 
 -- no check refuses the file
 abbrev pub IsReadable : List ℕ → Type 0
@@ -26,8 +26,7 @@ elf_of file = record {
 
 -- a readable file is read, another is refused for the first check that it fails; memory may lack
 abbrev pub Gives : Result Elf ElfRefusal → List ℕ → Type 0
-Gives (Ok elf) file = IsReadable file × (elf ≡ elf_of file)
-Gives (Err why) file = (refusal file ≡ Some why) ⊎ (why ≡ Memory)
+Gives result file = GivesOrRefuses Memory result (refusal file) (elf_of file)
 
 -- the headers and symbols were read from the file, which is readable
 pub record IsReadFrom (elf : Elf) (file : List ℕ) : Type 0 where

@@ -1,5 +1,5 @@
 -- Why a file is refused: the first check that it fails, with its item, and the lowest index.
-use Rattle.std.specs.Prelude.{◌≡◌, ℕ, zero, suc, ◌+◌, ◌*◌, ◌/◌, ◌==◌, Bool, not, ◌&&◌, ◌||◌, List, [], ◌∷◌, ◌++◌, length, Option, Some, None, option_map, position, find, sum_by, nat_lt, Result, Ok, Err, if◌then◌else◌}
+use Rattle.std.specs.Prelude.{◌≡◌, ℕ, zero, suc, ◌+◌, ◌*◌, ◌/◌, ◌==◌, Bool, not, ◌&&◌, ◌||◌, ◌⊎◌, List, [], ◌∷◌, ◌++◌, length, Option, Some, None, option_map, position, find, sum_by, nat_lt, Result, Ok, Err, if◌then◌else◌}
 use Rattle.std.specs.List.{list_any}
 use Rattle.std.specs.Option.{option_or}
 use Rattle.elf_read.specs.declared.refusals.ElfRefusal.{ElfRefusal}
@@ -118,6 +118,11 @@ refusal file =
     or_else segment_kind (segments_of file) or_else segment_out (length file) (segments_of file)
     or_else segment_overlap (segments_of file) or_else too_large (segments_of file)
     or_else section_out (length file) (sections_of file) or_else name_out file (sections_of file)
+
+-- a call gives this value where no check refuses, and else the first refusal; memory may lack
+abbrev pub GivesOrRefuses : {A E : Type 0} → (memory : E) → Result A E → Option E → A → Type 0
+GivesOrRefuses memory (Ok x) first value = (first ≡ None) × (x ≡ value)
+GivesOrRefuses memory (Err why) first value = (first ≡ Some why) ⊎ (why ≡ memory)
 
 -- a check says no more than whether, and why, it refuses
 abbrev pub Says : {A : Type 0} → Result (Unit {0}) A → Option A → Type 0

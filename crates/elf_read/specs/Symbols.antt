@@ -9,7 +9,7 @@ use Rattle.elf_spec.specs.Fields.{word_at}
 use Rattle.elf_spec.specs.Records.{entries}
 use Rattle.elf_spec.specs.Tables.{is_symtab, strings_of, symbol_at, symbols_in}
 use Rattle.elf_read.specs.Checks.{is_name_out}
-use Rattle.elf_read.specs.Refusals.{first_below, name_out}
+use Rattle.elf_read.specs.Refusals.{GivesOrRefuses, first_below, name_out}
 
 pub record IsTables (bytes : ℕ) (sections : List Section) (tables : Tables) : Type 0 where
   pub symbols : find is_symtab sections ≡ Some tables.symbols
@@ -35,5 +35,5 @@ symbols_with file sections = symbols_in file (find is_symtab sections) (strings_
 
 -- all symbols, or the refusal of the first whose name is out; memory may lack
 abbrev pub GivesSymbols : Result (List Symbol) ElfRefusal → List ℕ → List Section → Type 0
-GivesSymbols (Ok list) file sections = (name_out file sections ≡ None) × (list ≡ symbols_with file sections)
-GivesSymbols (Err why) file sections = (name_out file sections ≡ Some why) ⊎ (why ≡ Memory)
+GivesSymbols result file sections =
+    GivesOrRefuses Memory result (name_out file sections) (symbols_with file sections)

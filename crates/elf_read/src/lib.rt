@@ -21,3 +21,5 @@ pub use flag_bits::{FileFlags, SectionFlags, SegmentFlags};
 pub use laws::{readable_files_keep_their_facts, the_first_number_that_passes_is_found};
 pub use read_file::read_elf;
 pub use refusals::{ElfRefusal, Table};
+pub use sections::symbol_table;
+pub use segments::{is_loaded, memory_size};

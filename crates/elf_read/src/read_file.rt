@@ -36,7 +36,7 @@ pub fn read_elf(alloc: Global, file: &[u8]) -> Result<Elf, ElfRefusal>
     let program_headers = segments.as_slice();
     check_kinds(program_headers)?;
     check_out(program_headers, file.len())?;
-    check_overlap(alloc, program_headers)?;
+    check_overlap(program_headers)?;
     check_large(program_headers)?;
     let Ok(sections) = read_sections(
         alloc,

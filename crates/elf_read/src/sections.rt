@@ -69,7 +69,7 @@ pub(crate) fn read_sections(
 }
 
 /// Which section is the symbol table: the first of its kind.
-pub(crate) fn symbol_table(sections: &[Section]) -> Option<usize>
+pub fn symbol_table(sections: &[Section]) -> Option<usize>
     ensures first { result ≡ symtab_index sections.now }
     ensures inside { IfSome result (λ i. i < length sections.now) }
 {

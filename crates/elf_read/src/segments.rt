@@ -89,7 +89,7 @@ pub(crate) fn check_kinds(segments: &[Segment]) -> Result<(), ElfRefusal>
 }
 
 /// Whether a segment is a PT_LOAD that takes memory.
-pub(crate) fn is_loaded(s: &Segment) -> bool
+pub fn is_loaded(s: &Segment) -> bool
     ensures { result ≡ is_loaded s.now }
 {
     s.kind == PT_LOAD && s.mem_size > 0
@@ -124,16 +124,24 @@ pub(crate) fn check_out(segments: &[Segment], bytes: usize) -> Result<(), ElfRef
     }
 }
 
+/// How many bytes of memory the PT_LOAD segments take.
+pub fn memory_size(segments: &[Segment]) -> u32
+    requires { memory_size segments.now < 2 ^ 32 }
+    ensures { result ≡ memory_size segments.now }
+{
+    segments
+        .iter()
+        .map(|s| if s.kind == PT_LOAD { s.mem_size } else { 0 })
+        .sum()
+}
+
 /// Checks how much memory the segments take.
 #[tactic(auto, unfolding(crate::specs::Refusals::too_large))]
 pub(crate) fn check_large(segments: &[Segment]) -> Result<(), ElfRefusal>
     requires { memory_size segments.now < 2 ^ 32 }
     ensures { Says result (too_large segments.now) }
 {
-    let bytes: u32 = segments
-        .iter()
-        .map(|s| if s.kind == PT_LOAD { s.mem_size } else { 0 })
-        .sum();
+    let bytes = memory_size(segments);
     if bytes > MOST_MEMORY {
         return Err(ElfRefusal::TooLarge(bytes));
     }

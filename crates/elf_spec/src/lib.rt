@@ -1,5 +1,9 @@
-// The records of a 32-bit ELF file, and in specs/ what they are over the file's bytes.
+// The records of a 32-bit ELF file, the names of heap functions, and in specs/ what they are over the
+// file's bytes.
 #![tactic(auto)]
+
+ghost use Rattle.std.specs.Prelude.{◌≡◌, ◌≤◌, length};
+ghost use Rattle.elf_spec.specs.Heap.{heap_name};
 
 use vec_list::VecList;
 
@@ -84,4 +88,23 @@ pub enum HeapName {
     CallocR,
     ReallocR,
     FreeR,
+}
+
+impl HeapName {
+    /// The name that the function's symbol has.
+    pub fn name(self) -> &'static str
+        ensures name { result.now ≡ heap_name self }
+        ensures short { length result.now ≤ 10 }
+    {
+        match self {
+            HeapName::Malloc => "malloc",
+            HeapName::Calloc => "calloc",
+            HeapName::Realloc => "realloc",
+            HeapName::Free => "free",
+            HeapName::MallocR => "_malloc_r",
+            HeapName::CallocR => "_calloc_r",
+            HeapName::ReallocR => "_realloc_r",
+            HeapName::FreeR => "_free_r",
+        }
+    }
 }

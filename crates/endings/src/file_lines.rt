@@ -120,26 +120,9 @@ fn heap_line(name: HeapName, wrong: &str) -> Line
 {
     let mut line = Line::new();
     line.push_str("halo: file: ");
-    line.push_str(name_of(name));
+    line.push_str(name.name());
     line.push_str(wrong);
     line
-}
-
-/// The name of a heap function.
-fn name_of(name: HeapName) -> &'static str
-    ensures name { result.now ≡ heap_name name }
-    ensures short { length result.now ≤ 10 }
-{
-    match name {
-        HeapName::Malloc => "malloc",
-        HeapName::Calloc => "calloc",
-        HeapName::Realloc => "realloc",
-        HeapName::Free => "free",
-        HeapName::MallocR => "_malloc_r",
-        HeapName::CallocR => "_calloc_r",
-        HeapName::ReallocR => "_realloc_r",
-        HeapName::FreeR => "_free_r",
-    }
 }
 
 /// What of an image is too large.

@@ -1,6 +1,6 @@
 -- What an accepted file is seen as: its executable sections, the sites of its calls and the file parts
 -- of its segments.
-use Rattle.std.specs.Prelude.{◌≡◌, ℕ, ◌+◌, ◌<◌, ◌⊎◌, Bool, false, List, [], ◌∷◌, take, drop, All, AllPairs, Any, Option, Some, None, Result, Ok, Err, if◌then◌else◌}
+use Rattle.std.specs.Prelude.{◌≡◌, ℕ, ◌+◌, ◌<◌, Bool, false, List, [], ◌∷◌, take, drop, All, AllPairs, Any, Option, Some, None, Result, if◌then◌else◌}
 use Rattle.elf_spec.specs.declared.Section.{Section}
 use Rattle.elf_spec.specs.declared.Segment.{Segment}
 use Rattle.elf_spec.specs.Code.{is_executable}
@@ -11,6 +11,7 @@ use Rattle.site_spec.specs.Sites.{site_at}
 use Rattle.exec_image.specs.declared.execs.Exec.{Exec}
 use Rattle.exec_image.specs.declared.refusals.FileRefusal.{FileRefusal}
 use Rattle.exec_image.specs.declared.refusals.FileRefusal.TheVariants.{Memory}
+use Rattle.elf_read.specs.Refusals.{GivesOrRefuses}
 use Rattle.exec_image.specs.Refusals.{file_refusal}
 
 -- no check refuses the file
@@ -46,5 +47,4 @@ file_part file None = []
 -- the image of an accepted file is seen as the file; another file is refused for the first check that
 -- it fails; memory may lack
 abbrev pub GivesImage : Result (List ℕ) FileRefusal → List ℕ → Type 0
-GivesImage (Ok image) file = IsAccepted file × (image ≡ file)
-GivesImage (Err why) file = (file_refusal file ≡ Some why) ⊎ (why ≡ Memory)
+GivesImage result file = GivesOrRefuses Memory result (file_refusal file) file

@@ -8,12 +8,10 @@ ghost use Rattle.exec_image.specs.CodeParts.{IsCode, code_parts, holds_in_file, 
 ghost use Rattle.exec_image.specs.Parts.{StandsFor};
 
 use crate::parts::{Part, first_above, in_order, meets};
-use elf_read::word;
+use elf_read::{is_loaded, word};
 use elf_spec::{Section, Segment};
 use reloc_table::is_executable;
 use std::alloc::{AllocError, Global};
-
-const PT_LOAD: u32 = 1;
 
 /// The memory of the executable sections.
 fn code_list(alloc: Global, sections: &[Section]) -> Result<Vec<Part>, AllocError>
@@ -42,10 +40,7 @@ pub fn read_code(alloc: Global, sections: &[Section]) -> Result<Vec<Part>, Alloc
 fn holds_in_file(g: &Segment, addr: u32) -> bool
     ensures { result ≡ holds_in_file addr g.now }
 {
-    g.kind == PT_LOAD
-        && g.mem_size > 0
-        && g.vaddr <= addr
-        && (addr as u64) < g.vaddr as u64 + g.file_size as u64
+    is_loaded(g) && g.vaddr <= addr && (addr as u64) < g.vaddr as u64 + g.file_size as u64
 }
 
 /// The file offset of the byte that is loaded at an address.

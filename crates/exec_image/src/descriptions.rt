@@ -9,9 +9,9 @@ ghost use Rattle.exec_image.specs.Checks.{descriptions, sections_in};
 ghost use Rattle.exec_image.specs.Parts.{StandsFor, parts_of};
 
 use crate::parts::{Part, in_order};
-use elf_read::Elf;
+use elf_read::{Elf, symbol_table};
 use elf_spec::Section;
-use reloc_table::{is_kept, symbol_table};
+use reloc_table::is_kept;
 use std::alloc::{AllocError, Global};
 
 const SHT_SYMTAB: u32 = 2;

@@ -54,27 +54,11 @@ pub fn entry_in(file: &[u8], heap: &HeapEntries, name: HeapName) -> Option<u32>
     }
 }
 
-/// Whether the symbol has this name.
-fn is_named(file: &[u8], s: &Symbol, name: &[u8]) -> bool
-    ensures { result ≡ bytes_eq (symbol_name file.now s.now) name.now }
-{
-    bytes_at(file, s.name_at, s.name_len) == name
-}
-
 /// Whether the symbol has the name of a heap function.
 fn has_name(file: &[u8], s: &Symbol, name: HeapName) -> bool
     ensures { result ≡ bytes_eq (symbol_name file.now s.now) (heap_name name) }
 {
-    match name {
-        HeapName::Malloc => is_named(file, s, b"malloc"),
-        HeapName::Calloc => is_named(file, s, b"calloc"),
-        HeapName::Realloc => is_named(file, s, b"realloc"),
-        HeapName::Free => is_named(file, s, b"free"),
-        HeapName::MallocR => is_named(file, s, b"_malloc_r"),
-        HeapName::CallocR => is_named(file, s, b"_calloc_r"),
-        HeapName::ReallocR => is_named(file, s, b"_realloc_r"),
-        HeapName::FreeR => is_named(file, s, b"_free_r"),
-    }
+    bytes_at(file, s.name_at, s.name_len) == name.name().as_bytes()
 }
 
 fn is_heap_symbol(file: &[u8], s: &Symbol, name: HeapName) -> bool

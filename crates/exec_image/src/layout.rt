@@ -17,7 +17,7 @@ use crate::descriptions::read_descriptions;
 use crate::parts::{Part, meets};
 use crate::refusals::FileRefusal;
 use bitflags::Flags;
-use elf_read::{Elf, SegmentFlags};
+use elf_read::{Elf, SegmentFlags, is_loaded};
 use elf_spec::{Section, Segment};
 use reloc_table::is_executable;
 use std::alloc::Global;
@@ -49,14 +49,11 @@ pub fn check_words(sections: &[Section]) -> Result<(), FileRefusal>
     }
 }
 
-const PT_LOAD: u32 = 1;
-
 /// Whether a segment of code has all of a section in its file part, where the section's address says.
 fn is_place_of(s: &Section, g: &Segment) -> bool
     ensures { result ≡ is_place_of s.now g.now }
 {
-    g.kind == PT_LOAD
-        && g.mem_size > 0
+    is_loaded(g)
         && SegmentFlags::from_bits_retain(g.flags).contains(SegmentFlags::EXECUTE)
         && g.vaddr <= s.addr
         && s.addr as u64 + s.size as u64 <= g.vaddr as u64 + g.file_size as u64

@@ -27,20 +27,6 @@ impl fmt::Display for ImagePart {
     }
 }
 
-/// The name of a heap function.
-fn name_of(name: &HeapName) -> &'static str {
-    match name {
-        HeapName::Malloc => "malloc",
-        HeapName::Calloc => "calloc",
-        HeapName::Realloc => "realloc",
-        HeapName::Free => "free",
-        HeapName::MallocR => "_malloc_r",
-        HeapName::CallocR => "_calloc_r",
-        HeapName::ReallocR => "_realloc_r",
-        HeapName::FreeR => "_free_r",
-    }
-}
-
 /// Why a file isn't accepted: the first check that it fails, in the order of the variants, with the
 /// lowest index or address, or the first name in the order of `HeapName`; or want of memory. `Elf` and
 /// `Relocs` never carry their own `Memory`.
@@ -63,10 +49,10 @@ pub enum FileRefusal {
     #[error("entry {0:08x} out")]
     EntryOut(u32),
     /// Symbols of this heap function have different values, or it has a byte of an earlier one.
-    #[error("{name} twice", name = name_of(.0))]
+    #[error("{name} twice", name = .0.name())]
     HeapEntryTwice(HeapName),
     /// The heap function hasn't two code words, or a symbol says so.
-    #[error("{name} small", name = name_of(.0))]
+    #[error("{name} small", name = .0.name())]
     HeapEntrySmall(HeapName),
     /// A segment begins with the mark of a new text.
     #[error("already rewritten")]

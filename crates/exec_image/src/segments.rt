@@ -12,9 +12,8 @@ ghost use Rattle.exec_image.specs.Refusals.{already_rewritten, image_too_large};
 
 use crate::file_bytes::bytes_at;
 use crate::refusals::{FileRefusal, ImagePart};
+use elf_read::{is_loaded, memory_size};
 use elf_spec::Segment;
-
-const PT_LOAD: u32 = 1;
 
 /// What a new text begins with.
 const MARK: &[u8] = b"HALO-LAYOUT-RV1\n";
@@ -25,13 +24,6 @@ const MOST_HEADERS: usize = 64;
 const MOST_BYTES: u32 = 67108864;
 
 const MOST_END: u64 = 0x7000_0000;
-
-/// Whether a segment is a PT_LOAD that takes memory.
-pub fn is_loaded(g: &Segment) -> bool
-    ensures { result ≡ is_loaded g.now }
-{
-    g.kind == PT_LOAD && g.mem_size > 0
-}
 
 /// Whether a loaded segment begins with the mark.
 fn has_mark(file: &[u8], g: &Segment) -> bool
@@ -62,17 +54,6 @@ fn ends_above(segments: &[Segment], limit: u64) -> bool
     ensures { result ≡ list_any (ends_above limit) segments.now }
 {
     segments.iter().any(|g| is_loaded(g) && g.vaddr as u64 + g.mem_size as u64 > limit)
-}
-
-/// How much memory the segments take.
-fn memory_size(segments: &[Segment]) -> u32
-    requires { memory_size segments.now < 2 ^ 32 }
-    ensures { result ≡ memory_size segments.now }
-{
-    segments
-        .iter()
-        .map(|g| if g.kind == PT_LOAD { g.mem_size } else { 0 })
-        .sum()
 }
 
 /// Checks that new segments and stubs have room.

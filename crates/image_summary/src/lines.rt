@@ -1,7 +1,6 @@
 // Writes the summary of an image, line by line.
 
 ghost use Rattle.std.specs.Prelude.{◌≡◌, ◌++◌, codes, flat_map, if◌then◌else◌, IfOk, OnOk};
-ghost use Rattle.elf_spec.specs.Heap.{heap_name};
 ghost use Rattle.image_summary.specs.Summary.{IsSummary, entry_line, exec_line, heap_line, heap_lines, site_line};
 
 use exec_image::{Exec, HeapName, Image, Site};
@@ -57,29 +56,13 @@ fn write_execs(alloc: Global, out: &mut Vec<u8>, execs: &[Exec]) -> Result<(), A
     Ok(())
 }
 
-/// The name of a heap function.
-fn name_of(name: HeapName) -> &'static str
-    ensures { result.now ≡ heap_name name }
-{
-    match name {
-        HeapName::Malloc => "malloc",
-        HeapName::Calloc => "calloc",
-        HeapName::Realloc => "realloc",
-        HeapName::Free => "free",
-        HeapName::MallocR => "_malloc_r",
-        HeapName::CallocR => "_calloc_r",
-        HeapName::ReallocR => "_realloc_r",
-        HeapName::FreeR => "_free_r",
-    }
-}
-
 #[tactic(auto, unfolding(crate::specs::Summary::heap_line))]
 fn write_heap_name(out: &mut Vec<u8>, name: HeapName, entry: Option<u32>) -> Result<(), AllocError>
     ensures { OnOk result (out.new.items ≡ out.old.items ++ heap_line name entry) }
 {
     if let Some(addr) = entry {
         out.extend_from_slice(b"heap ")?;
-        out.extend_from_slice(name_of(name).as_bytes())?;
+        out.extend_from_slice(name.name().as_bytes())?;
         out.push(b' ')?;
         push_hex(out, addr)?;
         out.push(b'\n')?;

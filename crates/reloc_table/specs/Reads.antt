@@ -1,5 +1,6 @@
 -- What the relocations of a file are read as.
-use Rattle.std.specs.Prelude.{◌≡◌, ℕ, ◌⊎◌, List, None, Some, Result, Ok, Err}
+use Rattle.std.specs.Prelude.{ℕ, List, Result}
+use Rattle.elf_read.specs.Refusals.{GivesOrRefuses}
 use Rattle.elf_spec.specs.declared.Reloc.{Reloc}
 use Rattle.elf_spec.specs.Relocations.{relocs_of}
 use Rattle.reloc_table.specs.declared.refusals.RelocRefusal.{RelocRefusal}
@@ -8,5 +9,4 @@ use Rattle.reloc_table.specs.Refusals.{reloc_refusal}
 
 -- all kept entries in order of section and entry, or the first check that fails; memory may lack
 abbrev pub GivesRelocs : Result (List Reloc) RelocRefusal → List ℕ → Type 0
-GivesRelocs (Ok relocs) file = (reloc_refusal file ≡ None) × (relocs ≡ relocs_of file)
-GivesRelocs (Err why) file = (reloc_refusal file ≡ Some why) ⊎ (why ≡ Memory)
+GivesRelocs result file = GivesOrRefuses Memory result (reloc_refusal file) (relocs_of file)

@@ -13,4 +13,4 @@ pub use elf_spec::Reloc;
 pub use read::read_relocs;
 pub use refusals::RelocRefusal;
 pub use relocs::Relocs;
-pub use tables::{is_executable, is_kept, symbol_table};
+pub use tables::{is_executable, is_kept};

@@ -15,8 +15,8 @@ use crate::entries::{bad_slots, check_section};
 use crate::refusals::RelocRefusal;
 use crate::relocs::{Relocs, relocs_at};
 use crate::slots::{EntryTable, slots_of};
-use crate::tables::{ENTRY_SIZE, check_any, check_sizes, is_kept, symbol_table};
-use elf_read::Elf;
+use crate::tables::{ENTRY_SIZE, check_any, check_sizes, is_kept};
+use elf_read::{Elf, symbol_table};
 use elf_spec::Section;
 use std::alloc::{AllocError, Global};
 

@@ -17,19 +17,10 @@ use elf_spec::Section;
 
 const SHT_PROGBITS: u32 = 1;
 
-const SHT_SYMTAB: u32 = 2;
-
 const SHT_RELA: u32 = 4;
 
 /// The size of an entry.
 pub const ENTRY_SIZE: u32 = 12;
-
-/// Which section is the symbol table: the first of its kind.
-pub fn symbol_table(sections: &[Section]) -> Option<usize>
-    ensures { result ≡ symtab_index sections.now }
-{
-    sections.iter().position(|s| s.kind == SHT_SYMTAB)
-}
 
 fn is_at(place: Option<usize>, i: usize) -> bool
     ensures { result ≡ is_at place i }
