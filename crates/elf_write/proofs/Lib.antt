@@ -3,7 +3,6 @@ pub mod Sets
 pub mod Written
 pub mod Headers
 pub mod LayoutLaw
-pub mod LoadingLaw
 pub mod StillReadable
 pub mod MemoryLaw
 pub mod Above

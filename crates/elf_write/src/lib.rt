@@ -6,7 +6,6 @@ ghost use Rattle.elf_spec.specs.NewFile.{new_file};
 ghost use Rattle.elf_spec.specs.Records.{e_phnum};
 ghost use Rattle.elf_write.specs.Inputs.{HasTable, IsInside, IsSmall};
 ghost use Rattle.elf_write.specs.Layout.{NewLayout};
-ghost use Rattle.elf_write.specs.Places.{NewLoading};
 
 mod bytes;
 mod contents;
@@ -45,7 +44,6 @@ pub fn with_new_segments(
     ensures is { IfOk result (λ new. new.items ≡ new_file file.now patches.now segments.now) }
     ensures fits_33_mib { IfOk result (λ new. length new.items ≤ 34603008) }
     ensures layout { IfOk result (λ new. NewLayout file.now patches.now segments.now new.items) }
-    ensures loading { IfOk result (λ new. NewLoading file.now patches.now segments.now new.items) }
 {
     let place = table_place(file);
     let end = table_end(file, segments.len());

@@ -1,11 +1,10 @@
--- The buffer holds the new file, which is laid out and loaded as the two laws say.
+-- The buffer holds the new file, which is laid out as the law says.
 use Rattle.std.proofs.Common.{◌≡◌, length, sym, subst, arith}
 use Rattle.std.proofs.lemmas.Grind.{common_steps}
 use Rattle.elf_spec.specs.NewFile.{new_file, table_end}
 use Rattle.elf_write.specs.Ends.{contents_end, new_length}
 use Rattle.elf_write.specs.Layout.{NewLayout}
 use Rattle.elf_write.proofs.LayoutLaw.{new_layout}
-use Rattle.elf_write.proofs.LoadingLaw.{new_loading}
 use Rattle.elf_write.proofs.with_new_segments.Goals as goal
 
 buffer_is : (c : goal.In_ok-push_contents) → c.push_contents.new.out.items ≡ new_file c.args.file.now c.args.patches.now c.args.segments.now
@@ -16,9 +15,6 @@ pub returns-clause-layout : goal.returns-clause-layout
 returns-clause-layout c =
     subst (NewLayout c.args.file.now c.args.patches.now c.args.segments.now) (sym (buffer_is c))
     (new_layout c.args.file.now c.args.patches.now c.args.segments.now record { long = c.requires.has_file_header; table = c.requires.has_table; inside = c.requires.patches_inside })
-
-pub returns-clause-loading : goal.returns-clause-loading
-returns-clause-loading c = new_loading _ _ _ _ (returns-clause-layout c)
 
 pub returns-clause-fits_33_mib : goal.returns-clause-fits_33_mib
 returns-clause-fits_33_mib c =
