@@ -1,8 +1,7 @@
 -- Parts of a buffer in memory.
-use Rattle.std.proofs.Common.{◌≡◌, ℕ, zero, suc, ◌+◌, ◌<◌, ◌≤◌, List, [], ◌∷◌, ◌++◌, true, length, take, drop, refl, ap, sym, ◌∙◌, arith}
+use Rattle.std.proofs.Common.{◌≡◌, ℕ, zero, suc, ◌+◌, ◌<◌, ◌≤◌, ◌↔◌, Bool, map, List, [], ◌∷◌, ◌++◌, true, length, take, drop, refl, ap, sym, ◌∙◌, arith}
 use Rattle.std.specs.Prelude.{Option, Some, None, is_some, option_map, option_and_then, unwrap_or, slice_index}
-use Rattle.machine_spec.specs.Memory.{Range, range_at, byte_of}
-use Rattle.machine_spec.proofs.AllFrom.{each_passes, all_pass}
+use Rattle.machine_spec.specs.Memory.{Range, all_from, shape_of, range_at, byte_of}
 use Rattle.flat_spec.specs.Stores.{allows_store, bytes_from, can_store, put_byte, put_bytes}
 use Rattle.flat_spec.specs.Machine.{Machine, register}
 use Rattle.machine_run.specs.declared.pause.Pause.{Pause}
@@ -10,7 +9,6 @@ use Rattle.machine_run.specs.declared.pause.Pause.TheVariants as pause
 use Rattle.flat_machine.specs.Seen.{FlatSeen}
 use Rattle.flat_machine.specs.Steps.{buffer_of, IsInMemory}
 use Rattle.flat_machine.specs.Paused.{seen_of, written_of, IsPaused}
-use Rattle.flat_spec.proofs.Pieces.{put_bytes_shape, storable_same}
 
 -- bytes that are read begin with that at the first address
 record Begins (m : List Range) (a n : ℕ) (bs : List ℕ) : Type 0 where
@@ -62,15 +60,25 @@ read_part m a (suc i) k (suc n) bs h le =
     rw next (read_part m (a + 1) i k n b.rest b.behind (omega arith)) in
     behind ∙ ap (λ x. Some (take k (drop (suc i) x))) (sym b.is)
 
+-- what the laws of memory say
+abbrev pub PassTogether : Type 0
+PassTogether = (test : ℕ → Bool) (a n : ℕ) → (all_from test a n ≡ true) ↔ ((k : ℕ) → a ≤ k → k < a + n → test k ≡ true)
+
+abbrev pub KeepRanges : Type 0
+KeepRanges = (m : List Range) (a : ℕ) (bytes : List ℕ) → map shape_of (put_bytes m a bytes) ≡ map shape_of m
+
+abbrev pub SameStores : Type 0
+SameStores = (m n : List Range) (a size : ℕ) → map shape_of m ≡ map shape_of n → can_store m a size ≡ can_store n a size
+
 -- a part of a buffer that can be stored to
-pub storable_part : (m : List Range) (a i k n : ℕ) → can_store m a n ≡ true → i + k ≤ n → can_store m (a + i) k ≡ true
-storable_part m a i k n h le =
-    all_pass (λ k. allows_store (range_at m k)) (a + i) k
-    (λ j low high. each_passes (λ k. allows_store (range_at m k)) a n h j (omega arith) (omega arith))
+pub storable_part : PassTogether → (m : List Range) (a i k n : ℕ) → can_store m a n ≡ true → i + k ≤ n → can_store m (a + i) k ≡ true
+storable_part together m a i k n h le =
+    (together (λ k. allows_store (range_at m k)) (a + i) k).1
+    (λ j low high. (together (λ k. allows_store (range_at m k)) a n).0 h j (omega arith) (omega arith))
 
 -- what can be stored to stays so
-pub storable_after : (m : List Range) (a n b : ℕ) (bs : List ℕ) → can_store m a n ≡ true → can_store (put_bytes m b bs) a n ≡ true
-storable_after m a n b bs h = storable_same (put_bytes m b bs) m a n (put_bytes_shape m b bs) ∙ h
+pub storable_after : KeepRanges → SameStores → (m : List Range) (a n b : ℕ) (bs : List ℕ) → can_store m a n ≡ true → can_store (put_bytes m b bs) a n ≡ true
+storable_after keep same m a n b bs h = same (put_bytes m b bs) m a n (keep m b bs) ∙ h
 
 -- two pieces, one behind the other
 pub put_append : (m : List Range) (a : ℕ) (xs ys : List ℕ)

@@ -1,7 +1,7 @@
 -- Reads that wait for their input.
 use Rattle.std.proofs.Common.{◌≡◌, ℕ, ◌+◌, ◌≤◌, List, [], ◌++◌, Bool, true, false, cond, ◌&&◌, length, take, drop, refl, ap, sym, ◌∙◌, arith, inl, inr, append-nil}
 use Rattle.std.specs.Prelude.{Option, Some, None, IsSomeAnd, not, ◌==◌}
-use Rattle.flat_machine.proofs.Buffers.{storable_part, storable_after, put_append}
+use Rattle.flat_machine.proofs.Buffers.{PassTogether, KeepRanges, SameStores, storable_part, storable_after, put_append}
 use Rattle.std.proofs.Math.Seq.{take-append_seam, drop-append_seam}
 use Rattle.std.proofs.lemmas.List.{take_all, drop_all, length-append}
 use Rattle.rv_isa.specs.declared.Instr.{Instr}
@@ -168,18 +168,18 @@ abbrev pub FedOn : Machine → ℕ → List ℕ → Machine → Type 0
 FedOn hart fed piece new = new ≡ record hart { memory = put_bytes hart.memory (register hart 11 + fed) piece }
 
 -- the piece goes into the buffer
-pub piece_fits : (p : Pause) (hart : Machine) (len fed n : ℕ) → p ≡ pause.Input len fed → IsPaused p hart → fed + n ≤ len
+pub piece_fits : PassTogether → (p : Pause) (hart : Machine) (len fed n : ℕ) → p ≡ pause.Input len fed → IsPaused p hart → fed + n ≤ len
     → can_store hart.memory (register hart 11 + fed) n ≡ true
-piece_fits p hart len fed n is paused room =
-    storable_part hart.memory (register hart 11) fed n len (rw is at paused).0 room
+piece_fits together p hart len fed n is paused room =
+    storable_part together hart.memory (register hart 11) fed n len (rw is at paused).0 room
 
 -- the machine still waits
-pub feeds_paused : (p : Pause) (hart new : Machine) (len fed : ℕ) (piece : List ℕ) → p ≡ pause.Input len fed
+pub feeds_paused : KeepRanges → SameStores → (p : Pause) (hart new : Machine) (len fed : ℕ) (piece : List ℕ) → p ≡ pause.Input len fed
     → IsPaused p hart → fed + length piece ≤ len → FedOn hart fed piece new
     → IsPaused (pause.Input len (fed + length piece)) new
-feeds_paused p hart new len fed piece is paused room e =
+feeds_paused keep same p hart new len fed piece is paused room e =
     let was : IsPaused (pause.Input len fed) hart = rw is at paused in
-    rw e (storable_after hart.memory (register hart 11) len _ piece was.0, room, was.2, was.3)
+    rw e (storable_after keep same hart.memory (register hart 11) len _ piece was.0, room, was.2, was.3)
 
 -- pieces add up
 adds_fed : (hart m new : Machine) (len fed : ℕ) (bytes piece : List ℕ) → SeenFed hart m len fed bytes

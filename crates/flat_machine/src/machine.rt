@@ -14,8 +14,9 @@ ghost use Rattle.flat_machine.specs.Steps.{Pauses, StepsTo};
 use crate::Stepped;
 use crate::hart::Hart;
 use flat_mem::FlatMem;
+use flat_spec::{ranges_say_what_may_be_accessed, stores_change_their_bytes_alone};
 use machine_run::{Pause, pause_of};
-use machine_spec::Ending;
+use machine_spec::{Ending, all_addresses_pass_where_each_does};
 use std::marker::Model;
 
 /// A machine that runs a file's bytes. Contracts see its state, whether it waits at a read, and the
@@ -88,6 +89,9 @@ impl Flat {
         ensures adds_up { (m : Machine) (bytes : List ℕ) → self.old ≡ fed_with m bytes
             → self.new ≡ fed_with m (bytes ++ piece.now) }
     {
+        all_addresses_pass_where_each_does();
+        stores_change_their_bytes_alone();
+        ranges_say_what_may_be_accessed();
         if let Pause::Input { len, fed } = self.pause {
             self.hart.puts(fed, piece);
             self.pause = Pause::Input {

@@ -4,21 +4,26 @@ use Rattle.std.proofs.Common.{◌≡◌, ℕ, zero, suc, ◌+◌, ◌-◌, ◌<�
 use Rattle.std.specs.Prelude.{Option, Some, None, option_map, option_and_then, is_some, find}
 use Rattle.std.proofs.lemmas.List.{get_or-take, get_or-drop, length-take-le, take_at}
 use Rattle.machine_spec.specs.Memory.{Range, range_at, byte_of, all_from}
-use Rattle.machine_spec.proofs.AllFrom.{each_passes}
 use Rattle.flat_spec.specs.Stores.{bytes_from}
-use Rattle.flat_spec.proofs.Memories.{byte_there}
-use Rattle.flat_spec.proofs.Pieces.{bytes_from_are}
 use Rattle.flat_mem.specs.declared.area.Area.{Area}
 use Rattle.flat_mem.specs.declared.area.Access.{Access}
 use Rattle.flat_mem.specs.declared.area.Access.TheVariants.{Load}
 use Rattle.flat_mem.specs.Areas.{allows, has_address, ranges, written, IsLaidOut}
 use Rattle.flat_mem.proofs.Found.{IsFound, found, range_at_ranges, byte_found, stays, part_length}
-use Rattle.flat_mem.proofs.Runs.{allows_none}
+use Rattle.flat_mem.proofs.Runs.{PassTogether, allows_none}
+
+-- what the laws of memory say
+abbrev pub ReadThere : Type 0
+ReadThere = (m : List Range) (a : ℕ) (bytes : List ℕ) → ((i : ℕ) → i < length bytes → byte_of m (a + i) ≡ Some (get_or bytes i 0))
+    → bytes_from m a (length bytes) ≡ Some bytes
+
+abbrev pub BytesThere : Type 0
+BytesThere = (m : List Range) (a : ℕ) → is_some (byte_of m a) ≡ is_some (range_at m a)
 
 -- the bytes from an address on in the area that has it
-pub run_bytes : (a n : ℕ) (areas : List Area) (bytes : List ℕ) (s : Area) → IsLaidOut areas bytes → find (has_address a) areas ≡ Some s
+pub run_bytes : ReadThere → (a n : ℕ) (areas : List Area) (bytes : List ℕ) (s : Area) → IsLaidOut areas bytes → find (has_address a) areas ≡ Some s
     → a + n ≤ s.start + s.size → bytes_from (ranges areas bytes) a n ≡ Some (take n (drop (s.place + (a - s.start)) bytes))
-run_bytes a n areas bytes s laid e h = at (found a 0 areas (length bytes) s laid.parts e)
+run_bytes read a n areas bytes s laid e h = at (found a 0 areas (length bytes) s laid.parts e)
   where
     at : IsFound a 0 (length bytes) s → bytes_from (ranges areas bytes) a n ≡ Some (take n (drop (s.place + (a - s.start)) bytes))
     at f =
@@ -29,7 +34,7 @@ run_bytes a n areas bytes s laid e h = at (found a 0 areas (length bytes) s laid
         let q : s.place + (a + i - s.start) ≡ s.place + (a - s.start) + i = omega (arith, f.low) in
         byte_found (a + i) 0 areas bytes s laid.parts there
         ∙ ap (λ x. Some x) (ap (λ k. get_or bytes k 0) q ∙ sym (get_or-take n (drop (s.place + (a - s.start)) bytes) i 0 l ∙ get_or-drop (s.place + (a - s.start)) bytes i 0))) in
-        rw long at (bytes_from_are (ranges areas bytes) a (take n (drop (s.place + (a - s.start)) bytes)) (λ i l. each i (omega (arith, l, long))))
+        rw long at (read (ranges areas bytes) a (take n (drop (s.place + (a - s.start)) bytes)) (λ i l. each i (omega (arith, l, long))))
 
 -- a piece behind another
 pub bytes_more : (m : List Range) (a i n : ℕ) (xs ys : List ℕ) → bytes_from m a i ≡ Some xs → bytes_from m (a + i) n ≡ Some ys
@@ -54,10 +59,10 @@ bytes_more m a (suc i) n xs ys h g =
         rw (k, e, rest, ← all) refl
 
 -- there are bytes exactly where each address is in memory
-pub bytes_there : (m : List Range) (a n : ℕ) → is_some (bytes_from m a n) ≡ all_from (λ k. allows Load (range_at m k)) a n
-bytes_there m a zero = refl
-bytes_there m a (suc n) = at (byte_of m a) (bytes_from m (a + 1) n) ∙ ap (λ b. b && is_some (bytes_from m (a + 1) n)) (byte_there m a)
-    ∙ ap (λ b. is_some (range_at m a) && b) (bytes_there m (a + 1) n)
+pub bytes_there : BytesThere → (m : List Range) (a n : ℕ) → is_some (bytes_from m a n) ≡ all_from (λ k. allows Load (range_at m k)) a n
+bytes_there there m a zero = refl
+bytes_there there m a (suc n) = at (byte_of m a) (bytes_from m (a + 1) n) ∙ ap (λ b. b && is_some (bytes_from m (a + 1) n)) (there m a)
+    ∙ ap (λ b. is_some (range_at m a) && b) (bytes_there there m (a + 1) n)
   where
     at : (o : Option ℕ) (r : Option (List ℕ)) → is_some (option_and_then (λ b. option_map (λ bs. b ∷ bs) r) o) ≡ (is_some o && is_some r)
     at None r = refl
@@ -65,10 +70,10 @@ bytes_there m a (suc n) = at (byte_of m a) (bytes_from m (a + 1) n) ∙ ap (λ b
     at (Some b) (Some bs) = refl
 
 -- where all addresses allow an access there is an area at each
-pub not_outside : {P : Type 0} (access : Access) (areas : List Area) (bytes : List ℕ) (a n k : ℕ) → IsLaidOut areas bytes
+pub not_outside : {P : Type 0} → PassTogether → (access : Access) (areas : List Area) (bytes : List ℕ) (a n k : ℕ) → IsLaidOut areas bytes
     → all_from (λ j. allows access (range_at (ranges areas bytes) j)) a n ≡ true → a ≤ k → k < a + n → find (has_address k) areas ≡ None → P
-not_outside access areas bytes a n k laid h low high e =
-    let there : allows access (range_at (ranges areas bytes) k) ≡ true = each_passes (λ j. allows access (range_at (ranges areas bytes) j)) a n h k low high in
+not_outside together access areas bytes a n k laid h low high e =
+    let there : allows access (range_at (ranges areas bytes) k) ≡ true = (together (λ j. allows access (range_at (ranges areas bytes) j)) a n).0 h k low high in
     let none : allows access (range_at (ranges areas bytes) k) ≡ false = rw (range_at_ranges k 0 areas bytes laid.parts, e) (allows_none access) in
     absurd (let q : true ≡ false = sym there ∙ none in cc)
 

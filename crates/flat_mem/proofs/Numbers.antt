@@ -9,11 +9,11 @@ use Rattle.machine_spec.specs.Widths.{number_of, low_bytes, size_of, loaded_as}
 use Rattle.flat_spec.specs.Stores.{bytes_from, put_bytes, loaded, stored, fetched}
 use Rattle.flat_mem.specs.declared.area.Access.TheVariants.{Load, Store, Fetch}
 use Rattle.flat_mem.specs.Areas.{allows}
-use Rattle.flat_mem.proofs.Copies.{bytes_there}
+use Rattle.flat_mem.proofs.Copies.{BytesThere, bytes_there}
 
 -- no bytes where an address is outside
-pub no_bytes : (m : List Range) (a n : ℕ) → all_from (λ k. allows Load (range_at m k)) a n ≡ false → bytes_from m a n ≡ None
-no_bytes m a n h = at (bytes_from m a n) (bytes_there m a n ∙ h)
+pub no_bytes : BytesThere → (m : List Range) (a n : ℕ) → all_from (λ k. allows Load (range_at m k)) a n ≡ false → bytes_from m a n ≡ None
+no_bytes there m a n h = at (bytes_from m a n) (bytes_there there m a n ∙ h)
   where
     at : (o : Option (List ℕ)) → is_some o ≡ false → o ≡ None
     at None e = refl

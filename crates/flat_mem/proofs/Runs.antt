@@ -1,14 +1,17 @@
 -- Successive addresses in one area.
-use Rattle.std.proofs.Common.{◌≡◌, ◌⊎◌, inl, inr, subst, ℕ, zero, suc, ◌+◌, ◌-◌, ◌<◌, ◌≤◌, List, Bool, true, false, length, refl, ◌∙◌, arith}
+use Rattle.std.proofs.Common.{◌≡◌, ◌⊎◌, inl, inr, subst, ℕ, zero, suc, ◌+◌, ◌-◌, ◌<◌, ◌≤◌, ◌↔◌, List, Bool, true, false, length, refl, ◌∙◌, arith}
 use Rattle.std.specs.Prelude.{Some, None, find}
 use Rattle.std.proofs.lemmas.Bool.{cases_lt}
-use Rattle.machine_spec.proofs.AllFrom.{all_pass}
 use Rattle.machine_spec.specs.Memory.{range_at, all_from}
 use Rattle.flat_mem.specs.declared.area.Area.{Area}
 use Rattle.flat_mem.specs.declared.area.Access.{Access}
 use Rattle.flat_mem.specs.declared.area.Access.TheVariants.{Load, Store, Fetch}
 use Rattle.flat_mem.specs.Areas.{allows, area_allows, has_address, range_in, ranges, IsLaidOut}
 use Rattle.flat_mem.proofs.Found.{IsFound, found, range_at_ranges, stays}
+
+-- what the law of successive addresses says
+abbrev pub PassTogether : Type 0
+PassTogether = (test : ℕ → Bool) (a n : ℕ) → (all_from test a n ≡ true) ↔ ((k : ℕ) → a ≤ k → k < a + n → test k ≡ true)
 
 -- addresses that pass needn't be looked at
 pub all_skip : (test : ℕ → Bool) (a m n : ℕ) → ((k : ℕ) → a ≤ k → k < a + m → test k ≡ true) → all_from test a (m + n) ≡ all_from test (a + m) n
@@ -41,20 +44,20 @@ range_run a k areas bytes s laid e low high =
     rw (range_at_ranges k 0 areas bytes laid.parts, stays a k areas s laid.apart e low high) refl
 
 -- successive addresses in an area that allows an access
-pub all_there : (access : Access) (a n : ℕ) (areas : List Area) (bytes : List ℕ) (s : Area) → IsLaidOut areas bytes → find (has_address a) areas ≡ Some s
+pub all_there : PassTogether → (access : Access) (a n : ℕ) (areas : List Area) (bytes : List ℕ) (s : Area) → IsLaidOut areas bytes → find (has_address a) areas ≡ Some s
     → area_allows access s ≡ true → a + n ≤ s.start + s.size → all_from (λ k. allows access (range_at (ranges areas bytes) k)) a n ≡ true
-all_there access a n areas bytes s laid e w h = at (found a 0 areas (length bytes) s laid.parts e)
+all_there together access a n areas bytes s laid e w h = at (found a 0 areas (length bytes) s laid.parts e)
   where
     at : IsFound a 0 (length bytes) s → all_from (λ k. allows access (range_at (ranges areas bytes) k)) a n ≡ true
-    at f = all_pass (λ k. allows access (range_at (ranges areas bytes) k)) a n
+    at f = (together (λ k. allows access (range_at (ranges areas bytes) k)) a n).1
         (λ k low high. rw (range_run a k areas bytes s laid e (omega (arith, f.low)) (omega (arith, h))) (allows_range access bytes s ∙ w))
 
 -- a run of addresses that allow an access: from one of them up to the area's end
-pub run_allows : (access : Access) (a : ℕ) (areas : List Area) (bytes : List ℕ) (s : Area) (end next : ℕ) → IsLaidOut areas bytes → find (has_address a) areas ≡ Some s
+pub run_allows : PassTogether → (access : Access) (a : ℕ) (areas : List Area) (bytes : List ℕ) (s : Area) (end next : ℕ) → IsLaidOut areas bytes → find (has_address a) areas ≡ Some s
     → area_allows access s ≡ true → a < end → next ≡ s.start + s.size
     → all_from (λ k. allows access (range_at (ranges areas bytes) k)) a (end - a)
     ≡ all_from (λ k. allows access (range_at (ranges areas bytes) k)) next (end - next)
-run_allows access a areas bytes s end next laid e w l n =
+run_allows together access a areas bytes s end next laid e w l n =
     at (found a 0 areas (length bytes) s laid.parts e) (cases_lt end next)
   where
     each : IsFound a 0 (length bytes) s → (k : ℕ) → a ≤ k → k < next → allows access (range_at (ranges areas bytes) k) ≡ true
@@ -66,7 +69,7 @@ run_allows access a areas bytes s end next laid e w l n =
         ≡ all_from (λ k. allows access (range_at (ranges areas bytes) k)) next (end - next)
     at f (inl h) =
         let none : end - next ≡ 0 = omega arith in
-        rw none (all_there access a (end - a) areas bytes s laid e w (omega (arith, n)))
+        rw none (all_there together access a (end - a) areas bytes s laid e w (omega (arith, n)))
     at f (inr h) =
         let whole : end - a ≡ (next - a) + (end - next) = omega (arith, f.high, n) in
         let far : a + (next - a) ≡ next = omega (arith, f.high, n) in

@@ -1,7 +1,7 @@
 // Loads, stores and fetches of bytes and numbers. Where all bytes of a number are in one area they are
 // moved at once, and where it reaches into the next area by one copy for each area.
 
-ghost use Rattle.std.specs.Prelude.{◌≡◌, ◌*◌, ◌<◌, ◌^◌, IfSome, option_map, if◌then◌else◌};
+ghost use Rattle.std.specs.Prelude.{◌≡◌, ◌*◌, ◌<◌, ◌^◌, ℕ, List, IfSome, is_some, option_map, if◌then◌else◌};
 ghost use Rattle.machine_spec.specs.Memory.{byte_of, range_at};
 ghost use Rattle.machine_spec.specs.Widths.{number_of, size_of};
 ghost use Rattle.flat_spec.specs.Stores.{allows_store, bytes_from, fetched, loaded, put_byte, stored};
@@ -11,6 +11,8 @@ ghost use Rattle.flat_mem.specs.Calls.{Stores};
 use crate::area::{Access, Area, allows_all, area_at};
 use crate::pieces::{copy_in, put_in};
 use crate::words::{loaded_as, number_at, size_of, write_number};
+use flat_spec::{bytes_are_read_where_they_stand, ranges_say_what_may_be_accessed};
+use machine_spec::all_addresses_pass_where_each_does;
 use rv_isa::Width;
 
 /// The byte at an address.
@@ -44,6 +46,8 @@ fn number_in(areas: &[Area], bytes: &[u8], width: Width, addr: u32) -> Option<u3
     ensures is { result ≡ option_map number_of (bytes_from (ranges areas.now bytes.now) addr (size_of width)) }
     ensures small { IfSome result (λ n. n < 2 ^ (8 * size_of width)) }
 {
+    bytes_are_read_where_they_stand();
+    ranges_say_what_may_be_accessed();
     let area = area_at(areas, addr as usize)?;
     let size = size_of(width);
     if addr as usize + size as usize <= area.end() {
@@ -55,6 +59,15 @@ fn number_in(areas: &[Area], bytes: &[u8], width: Width, addr: u32) -> Option<u3
     let mut piece = [0; 4];
     copy_in(areas, bytes, addr as usize, &mut piece[..size as usize]);
     Some(number_at(&piece, 0, width))
+}
+
+/// Whether each of `len` addresses from one on is in memory.
+pub fn holds_in(areas: &[Area], addr: u32, len: u32) -> bool
+    ensures { (bytes : List ℕ) → IsLaidOut areas.now bytes
+        → result ≡ is_some (bytes_from (ranges areas.now bytes) addr len) }
+{
+    ranges_say_what_may_be_accessed();
+    allows_all(areas, Access::Load, addr, len)
 }
 
 /// What a load gives.
@@ -74,6 +87,8 @@ pub fn fetch_in(areas: &[Area], bytes: &[u8], addr: u32) -> Option<u32>
     requires { IsLaidOut areas.now bytes.now }
     ensures { result ≡ fetched (ranges areas.now bytes.now) addr }
 {
+    all_addresses_pass_where_each_does();
+    bytes_are_read_where_they_stand();
     if addr % 4 != 0 {
         return None;
     }
@@ -96,6 +111,7 @@ pub fn store_in(areas: &[Area], bytes: &mut [u8], width: Width, addr: u32, value
     ensures stores { Stores result (stored (ranges areas.now bytes.old) width addr value) (ranges areas.now bytes.old) (ranges areas.now bytes.new) }
     ensures laid { IsLaidOut areas.now bytes.new }
 {
+    all_addresses_pass_where_each_does();
     let size = size_of(width);
     if addr % size != 0 {
         return false;

@@ -4,6 +4,8 @@ ghost use Rattle.std.specs.Prelude.{◌≡◌, ℕ, ◌+◌, ◌-◌, ◌<◌, �
 ghost use Rattle.machine_spec.specs.Memory.{all_from, range_at};
 ghost use Rattle.flat_mem.specs.Areas.{allows, area_allows, has_address, ranges, IsLaidOut};
 
+use machine_spec::all_addresses_pass_where_each_does;
+
 /// What is done with a byte of memory.
 #[derive(Clone, Copy, Debug)]
 pub enum Access {
@@ -79,6 +81,7 @@ pub fn area_at(areas: &[Area], addr: usize) -> Option<Area>
 pub fn allows_all(areas: &[Area], access: Access, addr: u32, len: u32) -> bool
     ensures { (bytes : List ℕ) → IsLaidOut areas.now bytes → result ≡ all_from (λ k. allows access (range_at (ranges areas.now bytes) k)) addr len }
 {
+    all_addresses_pass_where_each_does();
     let end = addr as usize + len as usize;
     let mut at = addr as usize;
     while at < end {

@@ -14,35 +14,12 @@ use crate::decoding::empty_table;
 use crate::memory::FlatMem;
 use crate::storage::Storage;
 use bitflags::Flags;
-use elf_read::{Elf, Segment, SegmentFlags, readable_files_keep_their_facts};
+use elf_read::{
+    Elf, Segment, SegmentFlags, is_loaded, memory_size, readable_files_keep_their_facts,
+};
 use std::alloc::{AllocError, Global};
 
-const PT_LOAD: u32 = 1;
-
 const STACK_START: u32 = 0x7ff00000;
-
-fn is_loaded(s: &Segment) -> bool
-    ensures { result ≡ is_loaded s.now }
-{
-    s.kind == PT_LOAD && s.mem_size > 0
-}
-
-/// How many bytes of memory the segments take.
-fn memory_size(segments: &[Segment]) -> usize
-    requires { memory_size segments.now ≤ 134217728 }
-    ensures { result ≡ memory_size segments.now }
-{
-    segments
-        .iter()
-        .map(|s| {
-            if s.kind == PT_LOAD {
-                s.mem_size as usize
-            } else {
-                0
-            }
-        })
-        .sum()
-}
 
 /// Adds an area, at the end of the buffer: its bytes are a part of the file and zero bytes behind it.
 fn add(
@@ -135,7 +112,7 @@ pub fn load(alloc: Global, elf: &Elf, file: &[u8]) -> Result<FlatMem, AllocError
     readable_files_keep_their_facts();
     let segments = elf.segments.as_slice();
     let mut areas = Vec::new(alloc);
-    let mut bytes = Vec::with_capacity(alloc, memory_size(segments) + stack_size() as usize)?;
+    let mut bytes = Vec::with_capacity(alloc, (memory_size(segments) + stack_size()) as usize)?;
     for segment in segments {
         add_segment(&mut areas, &mut bytes, segment, file)?;
     }

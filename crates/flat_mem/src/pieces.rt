@@ -5,6 +5,8 @@ ghost use Rattle.flat_spec.specs.Stores.{bytes_from, can_store, put_bytes};
 ghost use Rattle.flat_mem.specs.Areas.{ranges, written, IsLaidOut};
 
 use crate::area::{Area, area_at};
+use flat_spec::{bytes_are_read_where_they_stand, ranges_say_what_may_be_accessed};
+use machine_spec::all_addresses_pass_where_each_does;
 
 /// Some bytes of a buffer.
 fn part(bytes: &[u8], place: usize, count: usize) -> &[u8]
@@ -29,6 +31,9 @@ pub fn copy_in(areas: &[Area], bytes: &[u8], addr: usize, into: &mut [u8])
     requires there { is_some (bytes_from (ranges areas.now bytes.now) addr (length into.old)) ≡ true }
     ensures { bytes_from (ranges areas.now bytes.now) addr (length into.old) ≡ Some into.new }
 {
+    all_addresses_pass_where_each_does();
+    bytes_are_read_where_they_stand();
+    ranges_say_what_may_be_accessed();
     let mut done = 0;
     while done < into.len() {
         let at = addr + done;
@@ -49,6 +54,7 @@ pub fn put_in(areas: &[Area], bytes: &mut [u8], addr: usize, piece: &[u8])
     ensures memory { ranges areas.now bytes.new ≡ put_bytes (ranges areas.now bytes.old) addr piece.now }
     ensures laid { IsLaidOut areas.now bytes.new }
 {
+    all_addresses_pass_where_each_does();
     let mut done = 0;
     while done < piece.len() {
         let at = addr + done;

@@ -6,7 +6,7 @@ ghost use Rattle.flat_spec.specs.Stores.{allows_store, bytes_from, can_store, fe
 ghost use Rattle.flat_mem.specs.Areas.{ranges, IsLaidOut};
 ghost use Rattle.flat_mem.specs.Calls.{Stores};
 
-use crate::accesses::{fetch_in, get_in, load_in, set_in, store_in};
+use crate::accesses::{fetch_in, get_in, holds_in, load_in, set_in, store_in};
 use crate::area::{Access, Area, allows_all};
 use crate::pieces::{copy_in, put_in};
 use rv_isa::Width;
@@ -90,11 +90,10 @@ impl Storage {
     }
 
     /// Whether each of `len` addresses from one on is in memory.
-    #[tactic(auto, using(crate::proofs::Copies::bytes_there))]
     pub fn holds(&self, addr: u32, len: u32) -> bool
         ensures { result ≡ is_some (bytes_from self.now addr len) }
     {
-        allows_all(&self.areas, Access::Load, addr, len)
+        holds_in(&self.areas, addr, len)
     }
 
     /// Copies the bytes from byte `from` of a buffer at an address on, as many as `into` has.

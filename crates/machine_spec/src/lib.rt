@@ -2,6 +2,10 @@
 // move, the system calls and the first registers.
 #![tactic(auto)]
 
+mod laws;
+
+pub use laws::all_addresses_pass_where_each_does;
+
 /// Why a step is an address fault. The flat machine has F1, F3 and F6 alone.
 #[derive(Clone, Copy, Debug, PartialEq, Eq)]
 pub enum FaultKind {

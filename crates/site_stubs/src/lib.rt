@@ -8,6 +8,9 @@ ghost use Rattle.rv_isa.specs.Split.{split_of};
 ghost use Rattle.new_file_spec.specs.Stubs.{stub_words};
 ghost use Rattle.site_stubs.specs.StubRuns.{Calls, Returns};
 
+mod laws;
+
+pub use laws::{parts_of_a_distance_lead_there, stubs_call_and_come_back};
 use rv_isa::{Instr, Op, encode, split};
 
 const RA: u8 = 1;

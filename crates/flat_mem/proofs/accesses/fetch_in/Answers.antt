@@ -44,8 +44,8 @@ returns-then-addr-end c =
     let inside : c.args.addr + 4 ≤ c.in_ok-area.area.start + c.in_ok-area.area.size = omega (arith, c.end.ensures, c.if-addr-end.true) in
     rw (
       fetched_when (ranges c.args.areas.now c.args.bytes.now) c.args.addr true c.if-addr-ne0.false
-          (all_there Fetch c.args.addr 4 c.args.areas.now c.args.bytes.now c.in_ok-area.area c.requires (sym c.in_ok-area.ensures) c.if-not-area.false inside),
-      run_bytes c.args.addr 4 c.args.areas.now c.args.bytes.now c.in_ok-area.area c.requires (sym c.in_ok-area.ensures) inside,
+          (all_there c.all_addresses_pass_where_each_does.ensures.together Fetch c.args.addr 4 c.args.areas.now c.args.bytes.now c.in_ok-area.area c.requires (sym c.in_ok-area.ensures) c.if-not-area.false inside),
+      run_bytes c.bytes_are_read_where_they_stand.ensures.read c.args.addr 4 c.args.areas.now c.args.bytes.now c.in_ok-area.area c.requires (sym c.in_ok-area.ensures) inside,
       ← c.place_of.ensures,
       c.number_at.ensures.is,
     ) refl

@@ -49,7 +49,7 @@ returns-then-addr-size-clause-stores c =
     let f : IsFound c.args.addr 0 (length c.args.bytes.now) c.in-Some.area = found _ _ _ _ _ c.requires.parts (sym c.in-Some.ensures) in
     let inside : c.args.addr + size_of c.args.width ≤ c.in-Some.area.start + c.in-Some.area.size = omega (arith, c.size_of-size.ensures, c.end.ensures, c.if-addr-size.true) in
     stored_when (ranges c.args.areas.now c.args.bytes.now) c.args.width c.args.addr c.args.value true (rw c.size_of-size.ensures at c.if-addr-size-ne0.false)
-    (all_there Store c.args.addr (size_of c.args.width) c.args.areas.now c.args.bytes.now c.in-Some.area c.requires (sym c.in-Some.ensures) c.if-not-area.false inside)
+    (all_there c.all_addresses_pass_where_each_does.ensures.together Store c.args.addr (size_of c.args.width) c.args.areas.now c.args.bytes.now c.in-Some.area c.requires (sym c.in-Some.ensures) c.if-not-area.false inside)
     ∙ ap (λ m. Some m) (run_put c.args.addr c.args.addr c.args.areas.now c.args.bytes.now (low_bytes (size_of c.args.width) c.args.value) c.in-Some.area c.requires (sym c.in-Some.ensures)
     f.low (omega (arith, inside, length-low_bytes (size_of c.args.width) c.args.value))
     ∙ ap (ranges c.args.areas.now) (rw (← c.place_of.ensures) (sym c.write_number.ensures)))

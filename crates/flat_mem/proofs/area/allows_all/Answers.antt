@@ -11,7 +11,7 @@ loop-at-smaller c =
 
 pub loop-at-preserved : goal.loop-at-preserved
 loop-at-preserved c = λ bytes laid. c.loop-at.invariant bytes laid
-    ∙ run_allows c.args.access c.loop-at.at c.args.areas.now bytes c.in-Some.area (c.args.addr + c.args.len) c.end-at.result laid (sym c.in-Some.ensures)
+    ∙ run_allows c.all_addresses_pass_where_each_does.ensures.together c.args.access c.loop-at.at c.args.areas.now bytes c.in-Some.area (c.args.addr + c.args.len) c.end-at.result laid (sym c.in-Some.ensures)
     (sym c.if-allows.ensures) c.loop-at-test.true c.end-at.ensures
 
 pub returns-in_default : goal.returns-in_default

@@ -14,7 +14,8 @@ pub memory_size-requires : goal.memory_size-requires
 memory_size-requires c =
     let facts : ReadableFacts c.args.file.now = c.readable_files_keep_their_facts.ensures c.args.file.now c.requires.readable in
     let same : c.as_slice-segments.result.now ≡ segments_of c.args.file.now = c.as_slice-segments.ensures ∙ ap (λ (e : Elf). e.segments) c.requires.read in
-    rw same facts.memory
+    let m : memory_size c.as_slice-segments.result.now ≤ 134217728 = rw same facts.memory in
+    omega (arith, m)
 
 pub overflow_add-memory_size : goal.overflow_add-memory_size
 overflow_add-memory_size c =

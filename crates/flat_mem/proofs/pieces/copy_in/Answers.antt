@@ -10,8 +10,8 @@ use Rattle.flat_mem.proofs.pieces.copy_in.Goals as goal
 
 pub returns-in_default : goal.returns-in_default
 returns-in_default c =
-    not_outside Load c.args.areas.now c.args.bytes.now c.args.addr (length c.args.into.now) (c.args.addr + c.loop-done.done) c.requires.laid
-    (sym (bytes_there (ranges c.args.areas.now c.args.bytes.now) c.args.addr (length c.args.into.now)) ∙ c.requires.there)
+    not_outside c.all_addresses_pass_where_each_does.ensures.together Load c.args.areas.now c.args.bytes.now c.args.addr (length c.args.into.now) (c.args.addr + c.loop-done.done) c.requires.laid
+    (sym (bytes_there c.ranges_say_what_may_be_accessed.ensures.bytes (ranges c.args.areas.now c.args.bytes.now) c.args.addr (length c.args.into.now)) ∙ c.requires.there)
     (omega arith) (omega arith) (sym c.area_at.ensures ∙ c.in_default.is)
 
 pub count_from-count-requires : goal.count_from-count-requires
@@ -46,7 +46,7 @@ loop-done-preserved c =
     rw c.part.ensures (part_length c.count_from-count.result c.place_of.result c.args.bytes.now
     (omega (arith, f.inside, f.low, f.high, c.place_of.ensures, c.count_from-count.ensures))) in
     let run : bytes_from (ranges c.args.areas.now c.args.bytes.now) (c.args.addr + c.loop-done.done) c.count_from-count.result ≡ Some c.part.result.now =
-    rw (c.part.ensures, c.place_of.ensures) (run_bytes (c.args.addr + c.loop-done.done) c.count_from-count.result c.args.areas.now c.args.bytes.now c.in-Some.area c.requires.laid
+    rw (c.part.ensures, c.place_of.ensures) (run_bytes c.bytes_are_read_where_they_stand.ensures.read (c.args.addr + c.loop-done.done) c.count_from-count.result c.args.areas.now c.args.bytes.now c.in-Some.area c.requires.laid
     (sym c.in-Some.ensures) (omega (arith, f.high, c.count_from-count.ensures))) in
     record {
       inside = omega (arith, ap length c.write.ensures, length-written c.loop-done.into c.loop-done.done c.part.result.now (omega (arith, n, c.count_from-count.ensures)), c.count_from-count.ensures);

@@ -8,7 +8,7 @@ use Rattle.flat_mem.proofs.pieces.put_in.Goals as goal
 
 pub returns-in_default-clause-memory : goal.returns-in_default-clause-memory
 returns-in_default-clause-memory c =
-    not_outside Store c.args.areas.now c.args.bytes.now c.args.addr (length c.args.piece.now) (c.args.addr + c.loop-done.done) c.requires.laid
+    not_outside c.all_addresses_pass_where_each_does.ensures.together Store c.args.areas.now c.args.bytes.now c.args.addr (length c.args.piece.now) (c.args.addr + c.loop-done.done) c.requires.laid
     c.requires.storable (omega arith) (omega arith) (sym c.area_at.ensures ∙ c.in_default.is)
 
 pub count_from-count-requires : goal.count_from-count-requires
