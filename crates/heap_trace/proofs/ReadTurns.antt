@@ -43,8 +43,8 @@ turn_led input p new told told' h is same = record {
 }
 
 -- a step that wants input waits for it
-pub wants : (s : Stepped) (len : ℕ) (input : List ℕ) (p : Program) (new : Seen Program) → StepsTo sym_rules s input p new
-    → s ≡ WantsInput len → (asks p ≡ Input len) × (new ≡ fed_with sym_rules len p [])
+pub wants : (s : Stepped) (len : ℕ) (input : List ℕ) (p : Program) (new : Seen Program)
+    → StepsTo sym_rules s input p new → s ≡ WantsInput len → (asks p ≡ Input len) × (new ≡ fed_with sym_rules len p [])
 wants Went len input p new h is = absurd cc
 wants (Wrote n) len input p new h is = absurd cc
 wants (WantsInput n) len input p new h is =

@@ -34,7 +34,8 @@ turn_stays (ending.Exit status) file plan input m h = refl
 turn_stays (ending.Illegal at) file plan input m h = refl
 turn_stays (ending.Fault kind at) file plan input m h = refl
 
-step_stays : (file : List ℕ) (plan : Plan) (s : SymState) → (s.machine.ending ≡ ending.Running → ⊥) → step file plan s ≡ s
+step_stays : (file : List ℕ) (plan : Plan) (s : SymState) → (s.machine.ending ≡ ending.Running → ⊥)
+    → step file plan s ≡ s
 unfolding step machine_turn
 step_stays file plan s h =
     ap (λ t. after t s.output) (turn_stays s.machine.ending file plan s.input s.machine h)
@@ -63,7 +64,8 @@ abbrev at_machine : List ℕ → Plan → SymMachine → Program
 at_machine file plan m = record { file = file; plan = plan; machine = m }
 
 -- the run of a file on an input, of which n turns are taken: the program and what the source has left
-pub record RanTo (file : List ℕ) (plan : Plan) (input : List ℕ) (n : ℕ) (p : Program) (told : Option (List ℕ)) : Type 0 where
+pub record RanTo (file : List ℕ) (plan : Plan) (input : List ℕ) (n : ℕ) (p : Program) (told : Option (List ℕ))
+    : Type 0 where
   pub program : p ≡ at_machine file plan (sym_run file plan input n).machine
   pub left : told ≡ Some (sym_run file plan input n).input
   pub runs : (k : ℕ) → k < n → (sym_run file plan input k).machine.ending ≡ ending.Running
@@ -79,7 +81,8 @@ pub ran_next : (file : List ℕ) (plan : Plan) (input : List ℕ) (n : ℕ) (p q
     → RanTo file plan input (n + 1) q told'
 unfolding step turn
 ran_next file plan input n p q told told' r runs does =
-    let done : LedTo (sym_run file plan input n).input (at_machine file plan (sym_run file plan input n).machine) q told' =
+    let now : Program = at_machine file plan (sym_run file plan input n).machine in
+    let done : LedTo (sym_run file plan input n).input now q told' =
     subst (λ (x : Program). LedTo (sym_run file plan input n).input x q told') r.program
     (does (sym_run file plan input n).input r.left) in
     let more = next_state file plan input n in
@@ -91,8 +94,8 @@ ran_next file plan input n p q told told' r runs does =
     }
 
 -- a run that ended at its last turn
-pub ends_at : (file : List ℕ) (plan : Plan) (input : List ℕ) (n bound : ℕ) (p : Program) (told : Option (List ℕ)) (e : Ending)
-    → RanTo file plan input n p told → e ≡ p.machine.ending → (e ≡ ending.Running → ⊥) → n ≤ bound
+pub ends_at : (file : List ℕ) (plan : Plan) (input : List ℕ) (n bound : ℕ) (p : Program) (told : Option (List ℕ))
+    (e : Ending) → RanTo file plan input n p told → e ≡ p.machine.ending → (e ≡ ending.Running → ⊥) → n ≤ bound
     → EndsAt (program_of file plan) input bound n e
 unfolding sym_run
 ends_at file plan input n bound p told e r is ended le =
@@ -162,12 +165,14 @@ pub leads_next : (file : List ℕ) (plan : Plan) (n : ℕ) (p q : Program) (byte
 unfolding turn
 leads_next file plan n p q bytes v before after earlier events f g leads is noted on =
     let here : LeadsOn file (note file plan p.machine) before earlier after events =
-    subst (λ (w : StepNote). LeadsOn file w before earlier after events) (noted ∙ (λ i. note (f i) (g i) p.machine)) on in
+    subst (λ (w : StepNote). LeadsOn file w before earlier after events)
+    (noted ∙ (λ i. note (f i) (g i) p.machine)) on in
     let there : q.machine ≡ (machine_turn file plan bytes p.machine).next =
     ap (λ (x : Program). x.machine) is ∙ (λ i. (machine_turn (f i) (g i) bytes p.machine).next) in
     subst (λ k. Leads file plan k q.machine after events) (sym (add-one n))
     (p.machine, bytes, before, earlier, leads, there, here)
 
 -- a trace of few turns is one of some more
-pub more_turns : (n m : ℕ) (t : Traced) (events : List Event) → IsLegalTrace n t events → n ≤ m → IsLegalTrace m t events
+pub more_turns : (n m : ℕ) (t : Traced) (events : List Event) → IsLegalTrace n t events → n ≤ m
+    → IsLegalTrace m t events
 more_turns n m t events h le = record { legal = h.legal; contexts = h.contexts; few = omega (arith, h.few, le) }

@@ -96,8 +96,8 @@ Profiles (Err end) file area input distance taken = Unit {0}
 
 -- a run of at most `bound` turns on an input under a plan of an area alone: its answer, its profile, and what the
 -- source has left
-pub record ProfileRan (end : Result Profiled ProfileEnd) (file : List ℕ) (area : Area) (distance bound : ℕ) (input : List ℕ)
-    (told : Option (List ℕ)) : Type 0 where
+pub record ProfileRan (end : Result Profiled ProfileEnd) (file : List ℕ) (area : Area) (distance bound : ℕ)
+    (input : List ℕ) (told : Option (List ℕ)) : Type 0 where
   pub taken : ℕ
   pub ends : Ends (ends_of end) (program_of file (plan_of_area area)) input bound taken
   pub profile : Profiles end file area input distance taken

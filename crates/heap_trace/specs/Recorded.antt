@@ -12,7 +12,8 @@ use Rattle.heap_trace.specs.Traces.{Traces, Leads, IsLegalTrace}
 
 -- the trace and the affinity of the first n turns of a run
 abbrev pub HasTurns : List ℕ → Plan → List ℕ → ℕ → Recording → Type 0
-HasTurns file plan input n r = (events : List Event) × Traces file plan input n r.trace events × Pushed r.affinity events
+HasTurns file plan input n r =
+    (events : List Event) × Traces file plan input n r.trace events × Pushed r.affinity events
 
 -- the same of n turns of which each has an input of its own
 abbrev pub HasOwnTurns : List ℕ → Plan → ℕ → Recording → Type 0

@@ -39,7 +39,8 @@ take-requires-clause-legal g c =
       λ after events on.
           (c.runs_have_legal_events.ensures.turns _ _ (c.loop-taken.taken + 1) _ after events (omega arith)
           (leads_next _ _ _ c.loop-taken.machine.program c.turn.new.machine.program some.0 _ _ _ _ _
-          c.loop-taken.invariant.file c.loop-taken.invariant.plan r.2 some.1 (c.last-note.ensures ∙ c.in-Ok.ensures.last) on)).legal,
+          c.loop-taken.invariant.file c.loop-taken.invariant.plan r.2 some.1
+          (c.last-note.ensures ∙ c.in-Ok.ensures.last) on)).legal,
     )
 
 pub returns-in-Err-AtRead-clause-run : goal.returns-in-Err-AtRead-clause-run
@@ -104,7 +105,8 @@ returns-in-Exit-clause-turns g c =
     let some = c.in-Ok.ensures.some in
     let p = c.in-Ok-take.ensures.pushed r.0 r.1 in
     let leads = leads_next _ _ _ c.loop-taken.machine.program c.turn.new.machine.program some.0 _ _ _ _ _
-    c.loop-taken.invariant.file c.loop-taken.invariant.plan r.2 some.1 (c.last-note.ensures ∙ c.in-Ok.ensures.last) p.1 in
+    c.loop-taken.invariant.file c.loop-taken.invariant.plan r.2 some.1 (c.last-note.ensures ∙ c.in-Ok.ensures.last)
+    p.1 in
     (c.turn.new.machine.program.machine, p.0, leads, p.2)
 
 pub returns-in-Exit-clause-legal : goal.returns-in-Exit-clause-legal
@@ -113,11 +115,13 @@ returns-in-Exit-clause-legal g c =
     let some = c.in-Ok.ensures.some in
     let p = c.in-Ok-take.ensures.pushed r.0 r.1 in
     let leads = leads_next _ _ _ c.loop-taken.machine.program c.turn.new.machine.program some.0 _ _ _ _ _
-    c.loop-taken.invariant.file c.loop-taken.invariant.plan r.2 some.1 (c.last-note.ensures ∙ c.in-Ok.ensures.last) p.1 in (
+    c.loop-taken.invariant.file c.loop-taken.invariant.plan r.2 some.1 (c.last-note.ensures ∙ c.in-Ok.ensures.last)
+    p.1 in (
       p.0,
       p.2,
       more_turns _ _ _ _
-          (c.runs_have_legal_events.ensures.turns _ _ (c.loop-taken.taken + 1) _ _ p.0 (omega arith) leads) (omega arith),
+          (c.runs_have_legal_events.ensures.turns _ _ (c.loop-taken.taken + 1) _ _ p.0 (omega arith) leads)
+          (omega arith),
     )
 
 pub returns-in-Illegal-clause-run : goal.returns-in-Illegal-clause-run
@@ -154,7 +158,8 @@ loop-taken-preserved g c =
     let some = c.in-Ok.ensures.some in
     let p = c.in-Ok-take.ensures.pushed r.0 r.1 in
     let leads = leads_next _ _ _ c.loop-taken.machine.program c.turn.new.machine.program some.0 _ _ _ _ _
-    c.loop-taken.invariant.file c.loop-taken.invariant.plan r.2 some.1 (c.last-note.ensures ∙ c.in-Ok.ensures.last) p.1 in
+    c.loop-taken.invariant.file c.loop-taken.invariant.plan r.2 some.1 (c.last-note.ensures ∙ c.in-Ok.ensures.last)
+    p.1 in
     record {
       goes = c.in-Ok.ensures.goes;
       runs = sym c.in-Running.ensures.is;

@@ -7,7 +7,8 @@ overflow_sub-len c =
     let near : c.in_ok-site.field-0.site.near ≡ true = cc in
     let at : c.in_ok-site.field-0.place ≡ Some c.in-Some.place = cc in
     let low : c.in-Some.place < length c.self.inside.order.keys =
-    place_within _ _ c.in_ok-site.field-0 _ [] _ c.self.inside.returns c.self.invariant c.in_ok-site.ensures.items _ near at in
+    place_within _ _ c.in_ok-site.field-0 _ [] _ c.self.inside.returns c.self.invariant
+    c.in_ok-site.ensures.items _ near at in
     omega (arith, low, c.len.ensures.len)
 
 pub move_index-requires-clause-from_in_bounds : goal.move_index-requires-clause-from_in_bounds
@@ -15,14 +16,16 @@ move_index-requires-clause-from_in_bounds c =
     let near : c.in_ok-site.field-0.site.near ≡ true = cc in
     let at : c.in_ok-site.field-0.place ≡ Some c.in-Some.place = cc in
     let low : c.in-Some.place < length c.self.inside.order.keys =
-    place_within _ _ c.in_ok-site.field-0 _ [] _ c.self.inside.returns c.self.invariant c.in_ok-site.ensures.items _ near at in
+    place_within _ _ c.in_ok-site.field-0 _ [] _ c.self.inside.returns c.self.invariant
+    c.in_ok-site.ensures.items _ near at in
     omega (arith, low, c.len.ensures.len)
 
 pub move_index-requires-clause-to_in_bounds : goal.move_index-requires-clause-to_in_bounds
 move_index-requires-clause-to_in_bounds c =
     let near : c.in_ok-site.field-0.site.near ≡ true = cc in
     let at : c.in_ok-site.field-0.place ≡ Some c.in-Some.place = cc in
-    place_within _ _ c.in_ok-site.field-0 _ [] _ c.self.inside.returns c.self.invariant c.in_ok-site.ensures.items _ near at
+    place_within _ _ c.in_ok-site.field-0 _ [] _ c.self.inside.returns c.self.invariant
+    c.in_ok-site.ensures.items _ near at
 
 pub invariant_of-self-in-Some : goal.invariant_of-self-in-Some
 invariant_of-self-in-Some c =
