@@ -11,6 +11,3 @@ mod text;
 
 pub use refusal::RewriteRefusal;
 pub use rewriting::rewrite;
-
-#[cfg(test)]
-mod tests;

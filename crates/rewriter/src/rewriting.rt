@@ -1,6 +1,6 @@
 // The new file of an executable and a plan.
 
-ghost use Rattle.std.specs.Prelude.{◌≡◌, ◌≢◌, ◌<◌, ◌≤◌, ◌⊎◌, Some, true, false, length, All, IfErr, IfOk};
+ghost use Rattle.std.specs.Prelude.{◌≡◌, ◌≢◌, ◌<◌, ◌≤◌, ◌⊎◌, None, Some, true, false, length, All, IfErr, IfOk};
 ghost use Rattle.elf_spec.specs.NewFile.{new_file};
 ghost use Rattle.elf_spec.specs.Records.{e_entry};
 ghost use Rattle.site_spec.specs.Plans.{Fits};
@@ -8,6 +8,7 @@ ghost use Rattle.new_file_spec.specs.Rewritten.{NewFile, has_heap};
 ghost use Rattle.elf_read.specs.Elf.{IsReadable};
 ghost use Rattle.elf_write.specs.Kept.{AreFieldsAlone};
 ghost use Rattle.elf_write.specs.NewMemory.{NewMemory};
+ghost use Rattle.exec_image.specs.Refusals.{file_refusal};
 ghost use Rattle.new_file_laws.specs.Behaviour.{KeepsBehaviour};
 ghost use Rattle.new_file_laws.specs.Parts.{AreParts};
 ghost use Rattle.rewriter.specs.Rewrites.{IsRewritten, rewrite_refusal};
@@ -137,12 +138,15 @@ fn of_file(why: FileRefusal) -> RewriteRefusal
 /// stub, and the stubs stand in a new text segment behind the mark. With heap functions, each goes to the
 /// heap's words in that segment, and a segment of data has the heap's tables and its area.
 ///
-/// The file is judged before the plan. It fails for no other cause but want of memory.
+/// The file is judged before the plan. It fails for no other cause but want of memory: so with an accepted file and a
+/// plan that fits it.
 pub fn rewrite(alloc: Global, file: &[u8], plan: &Plan) -> Result<Vec<u8>, RewriteRefusal>
     requires { length file.now ≤ 33554432 }
     ensures done { IfOk result (λ new. IsRewritten file.now plan.now new.items) }
     ensures refused { IfErr result (λ why. (rewrite_refusal file.now plan.now ≡ Some why)
         ⊎ (why ≡ RewriteRefusal.Memory)) }
+    ensures sure { file_refusal file.now ≡ None → Fits file.now plan.now
+        → IfErr result (λ why. why ≡ RewriteRefusal.Memory) }
 {
     let image = match accept(alloc, file) {
         Ok(image) => image,

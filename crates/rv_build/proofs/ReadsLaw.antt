@@ -9,7 +9,7 @@ use Rattle.rv_build.specs.Parts.{Parts}
 use Rattle.rv_build.specs.RecordBytes.{half_bytes, reloc_bytes, section_bytes, segment_bytes, symbol_bytes}
 use Rattle.rv_build.specs.Built.{built_file, code_segment, ended, file_header, identification, relocs_at, section_names, sections_at, sections_built, strings_at, strings_size, symbol_entries, symbol_names, table_sizes}
 use Rattle.rv_build.specs.Reads.{Reads}
-use Rattle.rv_build.proofs.ReadBack.{length-records, length-reloc, length-segment, length-word, relocs_read, sections_read, segment_back, words_read}
+use Rattle.rv_build.proofs.ReadBack.{length-records, length-reloc, length-section, length-segment, length-word, relocs_read, sections_read, segment_back, words_read}
 
 -- the fields of the file header
 length-header : (n : ℕ) → length (file_header n) ≡ 52
@@ -134,6 +134,17 @@ from_headers p = from_relocs p ∙ last_parts (front p ++ code p) (relocs p) (ta
 pub reads_back : (p : Parts) → Reads p (built_file p)
 reads_back p = record {
   entry = rw (from_header p) (header_entry (sections_at p) (behind_header p));
+  table = (
+    rw (from_header p) (header_shoff (sections_at p) (behind_header p)),
+    rw (from_header p) (header_shnum (sections_at p) (behind_header p)),
+  );
+  size =
+      let before : List ℕ = (front p ++ code p) ++ (relocs p ++ tables p) in
+      let a : length before ≡ sections_at p = length-through_tables p in
+      let b : length (headers p) ≡ 40 * length (sections_built p) =
+      length-records section_bytes 40 length-section (sections_built p) in
+      let c : length (headers p ++ []) ≡ length (headers p) = ap length (append-nil (headers p)) in
+      ap length (from_headers p) ∙ (length-append before (headers p ++ []) ∙ omega (arith, a, b, c));
   segments =
       let file : List ℕ = file_header (sections_at p) ++ behind_header p in
       let place : word_at file 28 ≡ 52 = header_phoff (sections_at p) (behind_header p) in
