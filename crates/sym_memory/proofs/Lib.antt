@@ -5,3 +5,4 @@ pub mod SpanLaws
 pub mod MemoryLaws
 pub mod ImageLaws
 pub mod StartLaws
+pub mod CellLaws

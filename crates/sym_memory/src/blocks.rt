@@ -5,8 +5,8 @@ ghost use Rattle.sym_cells.specs.Buffers.{is_inside_one};
 ghost use Rattle.sym_cells.specs.Cells.{zero_cell};
 ghost use Rattle.sym_memory.specs.Kept.{HeldBlocks, is_alive};
 
+use crate::block_cells::BlockCells;
 use crate::reaching::{can_reach, copy_in, known_in, load_in, store_in};
-use cell_buffer::CellBuffer;
 use rv_isa::Width;
 use std::alloc::{AllocError, Global};
 use std::marker::Model;
@@ -17,7 +17,7 @@ use sym_value::{Live, Value};
 #[derive(Debug, Drop)]
 pub struct Blocks {
     live: Live,
-    buffers: Vec<CellBuffer>,
+    buffers: Vec<BlockCells>,
 }
 
 impl Model for Blocks {
@@ -92,7 +92,7 @@ impl Blocks {
         }) }
         ensures unchanged { OnErr result (self.new ≡ self.old) }
     {
-        let buffer = CellBuffer::zeros(alloc, 4 * need as usize)?;
+        let buffer = BlockCells::zeros(alloc, 4 * need as usize)?;
         self.buffers.push(buffer)?;
         match self.live.add(16 * need) {
             Ok(block) => Ok(block),

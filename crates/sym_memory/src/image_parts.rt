@@ -10,19 +10,11 @@ ghost use Rattle.sym_memory.specs.Starting.{segment_part, header_end, is_in_exec
 
 use crate::parts::PlainPart;
 use bitflags::Flags;
-use elf_read::{Segment, SegmentFlags};
+use elf_read::{Segment, SegmentFlags, is_loaded};
 use exec_image::{Exec, Image};
 use std::alloc::{AllocError, Global};
 
-const PT_LOAD: u32 = 1;
-
 const HEADER_SIZE: u32 = 52;
-
-pub fn is_loaded(s: &Segment) -> bool
-    ensures { result ≡ is_loaded s.now }
-{
-    s.kind == PT_LOAD && s.mem_size > 0
-}
 
 /// What a loaded segment takes.
 fn segment_part(s: &Segment) -> PlainPart

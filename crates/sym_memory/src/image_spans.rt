@@ -7,11 +7,10 @@ ghost use Rattle.sym_spec.specs.StartMemory.{mark_of, span_over, segment_span};
 ghost use Rattle.sym_memory.specs.Parts.{span_of, spans_of, is_plain_in};
 ghost use Rattle.sym_memory.specs.Starting.{mark_in_memory, cell_in_memory, EndsLow};
 
-use crate::image_parts::is_loaded;
 use crate::parts::{Access, PlainPart, is_allowed};
 use crate::spans::PlainSpan;
 use cell_buffer::CellBuffer;
-use elf_read::Segment;
+use elf_read::{Segment, is_loaded};
 use flat_mem::FlatMem;
 use std::alloc::{AllocError, Global};
 use sym_cells::Mark;

@@ -2,6 +2,7 @@
 // names, each in a flat buffer of its own while it lives.
 #![tactic(auto)]
 
+mod block_cells;
 mod blocks;
 mod image_parts;
 mod image_spans;

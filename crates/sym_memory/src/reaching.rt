@@ -4,13 +4,13 @@ ghost use Rattle.machine_spec.specs.Widths.{size_of};
 ghost use Rattle.sym_cells.specs.Memory.{is_aligned, loaded_in, stored_in, known_in, set_block, overlaid};
 ghost use Rattle.sym_memory.specs.Kept.{blocks_of, AreKept, reaches};
 
+use crate::block_cells::BlockCells;
 use crate::widths::{is_aligned, size_of};
-use cell_buffer::CellBuffer;
 use rv_isa::Width;
 use sym_value::{Live, Value};
 
 /// Whether a block lives and has `size` bytes from an offset on.
-pub fn can_reach(live: &Live, buffers: &[CellBuffer], block: u32, offset: u32, size: usize) -> bool
+pub fn can_reach(live: &Live, buffers: &[BlockCells], block: u32, offset: u32, size: usize) -> bool
     requires kept { AreKept live.now.blocks buffers.now }
     requires small { size < 2 ^ 32 }
     ensures { result ≡ reaches offset size (slice_get (blocks_of live.now.blocks buffers.now) block) }
@@ -25,7 +25,7 @@ pub fn can_reach(live: &Live, buffers: &[CellBuffer], block: u32, offset: u32, s
 /// The value of a load; none exactly where it isn't aligned or not all its bytes can be reached.
 pub fn load_in(
     live: &Live,
-    buffers: &[CellBuffer],
+    buffers: &[BlockCells],
     block: u32,
     width: Width,
     offset: u32,
@@ -41,7 +41,7 @@ pub fn load_in(
 }
 
 /// The number of a byte; none exactly where it can't be reached or isn't known.
-pub fn known_in(live: &Live, buffers: &[CellBuffer], block: u32, offset: u32) -> Option<u8>
+pub fn known_in(live: &Live, buffers: &[BlockCells], block: u32, offset: u32) -> Option<u8>
     requires { AreKept live.now.blocks buffers.now }
     ensures { result ≡ known_in offset (slice_get (blocks_of live.now.blocks buffers.now) block) }
 {
@@ -56,7 +56,7 @@ pub fn known_in(live: &Live, buffers: &[CellBuffer], block: u32, offset: u32) ->
 /// nothing changes.
 pub fn store_in(
     live: &Live,
-    buffers: &mut [CellBuffer],
+    buffers: &mut [BlockCells],
     block: u32,
     width: Width,
     offset: u32,
@@ -80,7 +80,7 @@ pub fn store_in(
 
 fn store_here(
     live: &Live,
-    buffers: &mut [CellBuffer],
+    buffers: &mut [BlockCells],
     block: u32,
     width: Width,
     offset: u32,
@@ -100,7 +100,7 @@ fn store_here(
 }
 
 /// Copies the cells of one buffer in front of those of another, up to the lesser length.
-pub fn copy_in(buffers: &mut [CellBuffer], from: usize, to: usize)
+pub fn copy_in(buffers: &mut [BlockCells], from: usize, to: usize)
     requires from { from < length buffers.old }
     requires to { to < length buffers.old }
     requires differ { from ≢ to }
