@@ -17,5 +17,6 @@ pub mod EmptyReads
 pub mod Reading
 pub mod Feeding
 pub mod Stepping
+pub mod QuietRuns
 pub mod ByRules
 pub mod SameRuns

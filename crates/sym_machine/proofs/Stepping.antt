@@ -119,7 +119,7 @@ faulted Nothing (ending.Illegal a) kind at h = absurd (cc)
 faulted Nothing (ending.Fault k a) kind at h = refl
 
 -- the note of a turn of a machine that runs, by whether it faults
-by_fault : (p : Program) (b : Bool) → p.machine.ending ≡ ending.Running
+pub by_fault : (p : Program) (b : Bool) → p.machine.ending ≡ ending.Running
     → is_fault (machine_turn p.file p.plan [] p.machine).next.ending ≡ b
     → note p.file p.plan p.machine
     ≡ (if b then empty_note else note_found p.file p.plan (found_at p.file p.plan p.machine.pc) p.machine)

@@ -10,5 +10,6 @@ pub mod Serving
 pub mod Rules
 pub mod Seen
 pub mod Steps
+pub mod QuietTurns
 pub mod Ends
 pub mod Runs

@@ -22,6 +22,10 @@ impl<'a> Machine for SymMachine<'a> {
         self.step()
     }
 
+    fn run_quietly(&mut self, most: u32) -> u32 {
+        self.take_quiet_steps(most)
+    }
+
     fn take_piece(&mut self, piece: &[u8]) {
         self.feed(piece);
     }

@@ -13,9 +13,10 @@ ghost use Rattle.sym_machine.specs.Seen.{fed_on, IsStorable};
 use crate::calling::pointer_in;
 use crate::code::Code;
 use crate::found::Kept;
+use crate::numbers::{computed, is_held};
 use crate::reached::ImageMemory;
 use machine_spec::{Ending, FaultKind};
-use rv_isa::{Cond, Op, Width, compute, holds};
+use rv_isa::{Cond, Op, Width};
 use std::marker::Model;
 use sym_value::{Value, apply, decide};
 
@@ -140,7 +141,7 @@ impl<'a> Hart<'a> {
         ensures { result ≡ apply (lives_of self.now.file self.now.machine) op a b }
     {
         match (a, b) {
-            (Value::Num(v), Value::Num(w)) => Value::Num(compute(op, v, w)),
+            (Value::Num(v), Value::Num(w)) => Value::Num(computed(op, v, w)),
             _ => apply(op, a, b, self.memory.live()),
         }
     }
@@ -152,7 +153,7 @@ impl<'a> Hart<'a> {
         ensures { result ≡ decide (lives_of self.now.file self.now.machine) cond a b }
     {
         match (a, b) {
-            (Value::Num(v), Value::Num(w)) => Some(holds(cond, v, w)),
+            (Value::Num(v), Value::Num(w)) => Some(is_held(cond, v, w)),
             _ => decide(cond, a, b, self.memory.live()),
         }
     }

@@ -1,5 +1,5 @@
 // The symbol machine with its steps, and with reads that wait for their input.
-ghost use Rattle.std.specs.Prelude.{◌≡◌, ◌≢◌, ◌+◌, ◌<◌, ◌≤◌, ℕ, List, [], ◌++◌, length, None, IfOk, OnErr, IsSome, IsSomeAnd, slice_index, take, drop, unwrap_or};
+ghost use Rattle.std.specs.Prelude.{◌≡◌, ◌≢◌, ◌+◌, ◌<◌, ◌≤◌, ◌==◌, if◌then◌else◌, ℕ, List, [], ◌++◌, length, None, IfOk, OnErr, IsSome, IsSomeAnd, slice_index, take, drop, unwrap_or};
 ghost use Rattle.site_spec.specs.Plans.{Fits};
 ghost use Rattle.sym_value.specs.declared.Value.{Value};
 ghost use Rattle.machine_run.specs.Machines.{Asks, fed_with};
@@ -10,6 +10,7 @@ ghost use Rattle.sym_machine.specs.Programs.{Program};
 ghost use Rattle.sym_machine.specs.Asks.{asks};
 ghost use Rattle.sym_machine.specs.Rules.{sym_rules};
 ghost use Rattle.sym_machine.specs.Seen.{seen_by_run, between, FedMore, Completed};
+ghost use Rattle.sym_machine.specs.QuietTurns.{GoesOn};
 ghost use Rattle.sym_machine.specs.Steps.{Notes, note_after};
 
 use crate::acting::answer;
@@ -105,6 +106,23 @@ impl<'a> SymMachine<'a> {
         keep_note(&mut self.last, stepped, note);
         self.pause = pause_of(stepped);
         Ok(stepped)
+    }
+
+    /// Takes at most so many steps that neither read, write nor end, and whose notes are empty, and answers
+    /// how many.
+    pub(crate) fn take_quiet_steps(&mut self, most: u32) -> u32
+        requires { self.old.program.machine.ending ≡ Ending.Running }
+        ensures within { result ≤ most }
+        ensures turns { GoesOn result self.old.program self.new.program }
+        ensures goes { self.new.waits ≡ None }
+        ensures last { self.new.last ≡ (if result == 0 then self.old.last else empty_note) }
+    {
+        self.pause = Pause::Nothing;
+        let taken = self.hart.take_quiet_turns(most);
+        if taken != 0 {
+            self.last = None;
+        }
+        taken
     }
 
     /// Puts the next piece of the input into the buffer of the read at which the machine waits.

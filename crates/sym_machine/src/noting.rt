@@ -39,7 +39,7 @@ pub fn access_to(at: Value, width: u32) -> Option<BlockAccess>
     }
 }
 
-fn is_number(value: Value) -> bool
+pub fn is_number(value: Value) -> bool
     ensures { result ≡ is_number value }
 {
     match value {
