@@ -1,26 +1,16 @@
 // The lines of the table. `run CODE STEPS WORD..` and `steps CODE COUNT WORD..` have words `KEY=VALUE` that say
 // what is outside; `memory SEGMENT..` has the fields of segments in hexadecimal, with commas between them, and
-// behind each ` | ` an access.
+// behind each ` | ` an access; `symbols` has accesses to the symbol machine's memory, which stays from line to line.
 use crate::machines::{Outside, run, steps};
-use crate::memories::{Place, byte_at, copy, file_of, memory_of, number, put, width_of};
+use crate::memories::{Place, byte_at, copy, file_of, memory_of, number, put};
 use crate::samples::code;
+use crate::symbols::symbols_answer;
+use crate::words::{next_number, next_width, next_word};
 use anyhow::bail;
 use flat_mem::FlatMem;
 use std::alloc::Global;
 use std::str::SplitWhitespace;
-
-/// The next word of a line.
-fn next_word<'a>(words: &mut SplitWhitespace<'a>) -> anyhow::Result<&'a str> {
-    match words.next() {
-        Some(word) => Ok(word),
-        None => bail!("a word is missing"),
-    }
-}
-
-/// The next word of a line, a hexadecimal number.
-fn next_number(words: &mut SplitWhitespace) -> anyhow::Result<u32> {
-    Ok(u32::from_str_radix(next_word(words)?, 16)?)
-}
+use sym_memory::SymMemory;
 
 /// Sets what a word `KEY=VALUE` names.
 fn set(alloc: Global, outside: &mut Outside, key: &str, value: &str) -> anyhow::Result<()> {
@@ -71,14 +61,6 @@ fn segment_of(word: &str) -> anyhow::Result<Place> {
     Ok(place)
 }
 
-/// What a width is called in a line.
-fn width(words: &mut SplitWhitespace) -> anyhow::Result<rv_isa::Width> {
-    match width_of(next_word(words)?) {
-        Some(width) => Ok(width),
-        None => bail!("no such width"),
-    }
-}
-
 /// Makes an access that may change the memory; `None` where it is no such access.
 fn write_answer(
     alloc: Global,
@@ -93,7 +75,7 @@ fn write_answer(
             format!(in alloc; "{}", memory.set(addr, byte))?
         }
         "store" => {
-            let width = width(words)?;
+            let width = next_width(words)?;
             let addr = next_number(words)?;
             format!(in alloc; "{}", memory.store_number(width, addr, next_number(words)?))?
         }
@@ -116,7 +98,7 @@ fn read_answer(
     words: &mut SplitWhitespace,
 ) -> anyhow::Result<String> {
     if op == "load" {
-        let width = width(words)?;
+        let width = next_width(words)?;
         return Ok(number(alloc, memory.load_number(width, next_number(words)?))?);
     }
     let addr = next_number(words)?;
@@ -163,12 +145,13 @@ fn memory_answer(
     Ok(text)
 }
 
-/// The answer of a case.
-pub fn answer(alloc: Global, line: &str) -> anyhow::Result<String> {
+/// The answer of a case; a case `symbols` goes on with the symbol machine's memory as the last one left it.
+pub fn answer(alloc: Global, symbols: &mut SymMemory, line: &str) -> anyhow::Result<String> {
     let (front, accesses) = line.split_once(" | ").unwrap_or((line, ""));
     let mut words = front.split_whitespace();
     match next_word(&mut words)? {
         "memory" => memory_answer(alloc, words, accesses),
+        "symbols" => symbols_answer(alloc, symbols, accesses),
         command => machine_answer(alloc, command, words),
     }
 }

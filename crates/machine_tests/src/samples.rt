@@ -54,12 +54,20 @@ const WRITES: [u32; 14] = [
     0x0000_0073, // ecall
 ];
 
+/// Ends with status 0.
+const EXITS: [u32; 3] = [
+    0x05d0_0893, // addi a7,x0,93
+    0x0000_0513, // addi a0,x0,0
+    0x0000_0073, // ecall
+];
+
 /// The code of a sample: one of the programs by its name, or a single word in hexadecimal.
 pub fn code(alloc: Global, name: &str) -> anyhow::Result<Vec<u32>> {
     let words = match name {
         "reads" => READS.to_vec(alloc)?,
         "puts" => PUTS.to_vec(alloc)?,
         "writes" => WRITES.to_vec(alloc)?,
+        "exits" => EXITS.to_vec(alloc)?,
         _ => vec![in alloc; u32::from_str_radix(name, 16)?]?,
     };
     Ok(words)
