@@ -56,10 +56,9 @@ lacking_is_no_write ending is = subst IsStop (sym is) (λ e. cc, λ e. cc)
 module _ (word : List ℕ) (reads : Given → List FileRead) (Comes : Given → Contents → Ending → Type 0)
     (Brings : Given → FilesSeen → FilesSeen → Ending → Type 0)
     (Writes : Given → FilesSeen → FilesSeen → List ℕ → Type 0)
-    (once : (given : Given) (contents : Contents) (a b : Ending) → Comes given contents a → Comes given contents b
-    → a ≡ b)
-    (told : (given : Given) (contents : Contents) (before now : FilesSeen) (ending : Ending)
-    → AreTold (reads given) before contents → Brings given before now ending → Comes given contents ending)
+    (due : (given : Given) (contents : Contents) (before now : FilesSeen) (due brought : Ending)
+    → AreTold (reads given) before contents → Comes given contents due → Brings given before now brought
+    → brought ≡ due)
     (lacks : (given : Given) (before now : FilesSeen) → Brings given before now ReadFault
     → (contents : Contents) × AreTold (reads given) before contents × Comes given contents ReadFault)
     (exits : (given : Given) (before now : FilesSeen) (exit steps : ℕ) → Brings given before now (Exited exit steps)
@@ -74,13 +73,12 @@ module _ (word : List ℕ) (reads : Given → List FileRead) (Comes : Given → 
       absurd (exits given before.outside.files now.outside.files s n brings)
   text_done given before now ending success quiet brings leaves = absurd (omega arith)
 
-  pub text_laws : Laws (text_entry word reads Comes Brings Writes)
-  text_laws = record {
-    due = λ given contents before now due brought is comes brings.
-        once given contents brought due (told given contents before.files now.files brought is brings) comes;
-    started = λ given contents before now due is comes started.
-        inl (ap status_of (sym (once given contents Done due
-        (told given contents before.files now.files Done is started) comes)));
+  pub text_laws_by : Laws (text_entry word reads Comes Brings Writes)
+  text_laws_by = record {
+    due = λ given contents before now expected brought told comes brings.
+        due given contents before.files now.files expected brought told comes brings;
+    started = λ given contents before now expected told comes started.
+        inl (ap status_of (sym (due given contents before.files now.files expected Done told comes started)));
     lacking = λ given before now brings. lacks given before.files now.files brings;
     done = λ given before now ending success line quiet brings leaves.
         text_done given before now ending success quiet brings leaves;
@@ -88,3 +86,21 @@ module _ (word : List ℕ) (reads : Given → List FileRead) (Comes : Given → 
     lacks = λ given before now ending is leaves.
         inl (leaves.input, leaves.silent (lacking_is_no_write ending is));
   }
+
+-- one that comes to one ending, to which what was read of what is told brings it
+module _ (word : List ℕ) (reads : Given → List FileRead) (Comes : Given → Contents → Ending → Type 0)
+    (Brings : Given → FilesSeen → FilesSeen → Ending → Type 0)
+    (Writes : Given → FilesSeen → FilesSeen → List ℕ → Type 0)
+    (once : (given : Given) (contents : Contents) (a b : Ending) → Comes given contents a → Comes given contents b
+    → a ≡ b)
+    (told : (given : Given) (contents : Contents) (before now : FilesSeen) (ending : Ending)
+    → AreTold (reads given) before contents → Brings given before now ending → Comes given contents ending)
+    (lacks : (given : Given) (before now : FilesSeen) → Brings given before now ReadFault
+    → (contents : Contents) × AreTold (reads given) before contents × Comes given contents ReadFault)
+    (exits : (given : Given) (before now : FilesSeen) (exit steps : ℕ) → Brings given before now (Exited exit steps)
+    → ⊥) where
+  pub text_laws : Laws (text_entry word reads Comes Brings Writes)
+  text_laws = text_laws_by word reads Comes Brings Writes
+      (λ given contents before now due brought is comes brings.
+      once given contents brought due (told given contents before now brought is brings) comes)
+      lacks exits

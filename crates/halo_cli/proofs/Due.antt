@@ -14,6 +14,9 @@ use Rattle.halo_cli.specs.Show.{show_entry}
 use Rattle.halo_cli.specs.Generate.{gen_entry}
 use Rattle.halo_cli.specs.Options.{Policies}
 use Rattle.halo_cli.specs.Plan.{plan_entry}
+use Rattle.halo_cli.specs.Profile.{ProfileWrites, profile_entry}
+use Rattle.halo_cli.specs.Optimise.{OptimiseWrites, optimise_entry}
+use Rattle.halo_cli.specs.SelfRun.{self_entry}
 use Rattle.halo_cli.specs.Commands.{entries, all_entries, no_entry, entry_if, entry_named, entry_in}
 use Rattle.halo_words.specs.declared.values.Stop.{Stop}
 use Rattle.halo_words.specs.declared.values.Stop.TheVariants as stop
@@ -28,6 +31,8 @@ use Rattle.halo_cli.proofs.SymbolsDue.{symbols_laws}
 use Rattle.halo_cli.proofs.ShowDue.{show_laws}
 use Rattle.halo_cli.proofs.GenDue.{gen_laws}
 use Rattle.halo_cli.proofs.PlanDue.{ProfilesOnce, plan_laws}
+use Rattle.halo_cli.proofs.ProfilingDue.{profiling_laws}
+use Rattle.halo_cli.proofs.SelfDue.{self_laws}
 
 no_laws : Laws no_entry
 no_laws = record {
@@ -46,19 +51,29 @@ laws_if false entry other laws others = others
 pub laws_named : TextsOnce → (word : List ℕ) → Laws (entry_named entries word)
 laws_named once word =
     laws_if (bytes_eq rewrite_entry.word word) rewrite_entry
-    (entry_named (run_entry ∷ symbols_entry ∷ show_entry ∷ gen_entry ∷ []) word)
+    (entry_named (run_entry ∷ symbols_entry ∷ profile_entry ∷ show_entry ∷ gen_entry ∷ []) word)
     (rewrite_laws once)
-    (laws_if (bytes_eq run_entry.word word) run_entry (entry_named (symbols_entry ∷ show_entry ∷ gen_entry ∷ []) word)
+    (laws_if (bytes_eq run_entry.word word) run_entry
+    (entry_named (symbols_entry ∷ profile_entry ∷ show_entry ∷ gen_entry ∷ []) word)
     run_laws
-    (laws_if (bytes_eq symbols_entry.word word) symbols_entry (entry_named (show_entry ∷ gen_entry ∷ []) word)
+    (laws_if (bytes_eq symbols_entry.word word) symbols_entry
+    (entry_named (profile_entry ∷ show_entry ∷ gen_entry ∷ []) word)
     (symbols_laws once)
+    (laws_if (bytes_eq profile_entry.word word) profile_entry (entry_named (show_entry ∷ gen_entry ∷ []) word)
+    (profiling_laws (codes "profile") ProfileWrites)
     (laws_if (bytes_eq show_entry.word word) show_entry (entry_named (gen_entry ∷ []) word) show_laws
-    (laws_if (bytes_eq gen_entry.word word) gen_entry no_entry gen_laws no_laws))))
+    (laws_if (bytes_eq gen_entry.word word) gen_entry no_entry gen_laws no_laws)))))
 
 pub laws_of : TextsOnce → ProfilesOnce → (policies : Policies) (asked : Asked) → Laws (entry_in policies asked)
 laws_of texts profiles policies asked =
-    laws_if (bytes_eq (plan_entry policies).word asked.word) (plan_entry policies) (entry_named entries asked.word)
-    (plan_laws profiles policies) (laws_named texts asked.word)
+    laws_if (bytes_eq (plan_entry policies).word asked.word) (plan_entry policies)
+    (entry_named (optimise_entry policies ∷ self_entry policies ∷ entries) asked.word)
+    (plan_laws profiles policies)
+    (laws_if (bytes_eq (optimise_entry policies).word asked.word) (optimise_entry policies)
+    (entry_named (self_entry policies ∷ entries) asked.word)
+    (profiling_laws (codes "optimise") (OptimiseWrites policies))
+    (laws_if (bytes_eq (self_entry policies).word asked.word) (self_entry policies) (entry_named entries asked.word)
+    (self_laws policies) (laws_named texts asked.word)))
 
 pub unmoved_by : (before : Outside) → OnlyMoves before before
 unmoved_by before = record {
@@ -90,9 +105,9 @@ among (first ∷ rest) word shape found = by (bytes_eq first.word word) refl (am
     by false test later = inr (later (rw test at found))
 
 pub is_command : (words : List (List ℕ)) (asked : Asked) → AsksFor the_table words asked
-    → (asked.word ≡ codes "rewrite") ⊎ (asked.word ≡ codes "run") ⊎ (asked.word ≡ codes "symbols")
-    ⊎ (asked.word ≡ codes "plan")
-    ⊎ (asked.word ≡ codes "show") ⊎ (asked.word ≡ codes "gen") ⊎ ⊥
+    → (asked.word ≡ codes "rewrite") ⊎ (asked.word ≡ codes "optimise") ⊎ (asked.word ≡ codes "run")
+    ⊎ (asked.word ≡ codes "symbols") ⊎ (asked.word ≡ codes "profile") ⊎ (asked.word ≡ codes "plan")
+    ⊎ (asked.word ≡ codes "show") ⊎ (asked.word ≡ codes "gen") ⊎ (asked.word ≡ codes "self") ⊎ ⊥
 unfolding the_table
 is_command words asked asks = among the_table asked.word asks.shape asks.command
 

@@ -35,15 +35,32 @@ at_least_one : (o : Option ℕ) → is_at_least 1 o ≡ true → 1 ≤ unwrap_or
 at_least_one None is = absurd (cc)
 at_least_one (Some n) is = grind (arith, nat_tests)
 
--- the number of a line is at least 1
-pub nodes_least : ((words : List (List ℕ)) (asked : Asked) (shape : Shape) → AsksFor the_table words asked
+abbrev self_shape : Shape
+self_shape = record { word = codes "self"; choices = []; operands = node_count ∷ [] }
+
+self_named : shape_named the_table (codes "self") ≡ Some self_shape
+unfolding the_table
+self_named = refl
+
+-- what an operand of a line is
+abbrev pub OperandsFit : Type 0
+OperandsFit = (words : List (List ℕ)) (asked : Asked) (shape : Shape) → AsksFor the_table words asked
     → shape_named the_table asked.word ≡ Some shape → (k : ℕ) (place : Place)
-    → slice_get shape.operands k ≡ Some place → fits place.kind (operand_in asked.given k) ≡ true)
-    → (words : List (List ℕ)) (asked : Asked) → AsksFor the_table words asked → asked.word ≡ codes "gen"
-    → 1 ≤ nodes_in asked.given
-nodes_least fits_operand words asked asks is =
-    let named : shape_named the_table asked.word ≡ Some gen_shape = ap (shape_named the_table) is ∙ gen_named in
-    let text : List ℕ = operand_in asked.given 0 in
-    let fit : fits node_count.kind text ≡ true =
-    fits_operand words asked gen_shape asks named 0 node_count refl in
-    at_least_one (number_of 30000 text) (and_parts (is_plain text) (has_kind (Number 1 30000) text) fit).1
+    → slice_get shape.operands k ≡ Some place → fits place.kind (operand_in asked.given k) ≡ true
+
+module _ (fits_operand : OperandsFit) (words : List (List ℕ)) (asked : Asked)
+    (asks : AsksFor the_table words asked) where
+  least_of : (shape : Shape) → shape_named the_table asked.word ≡ Some shape
+      → slice_get shape.operands 0 ≡ Some node_count → 1 ≤ nodes_in asked.given
+  least_of shape named first =
+      let text : List ℕ = operand_in asked.given 0 in
+      let fit : fits node_count.kind text ≡ true =
+      fits_operand words asked shape asks named 0 node_count first in
+      at_least_one (number_of 30000 text) (and_parts (is_plain text) (has_kind (Number 1 30000) text) fit).1
+
+  -- the number of a line is at least 1
+  pub nodes_least : asked.word ≡ codes "gen" → 1 ≤ nodes_in asked.given
+  nodes_least is = least_of gen_shape (ap (shape_named the_table) is ∙ gen_named) refl
+
+  pub self_nodes_least : asked.word ≡ codes "self" → 1 ≤ nodes_in asked.given
+  self_nodes_least is = least_of self_shape (ap (shape_named the_table) is ∙ self_named) refl

@@ -24,3 +24,12 @@ pub mod FlatRuns
 pub mod RunEnds
 pub mod SymbolRuns
 pub mod SymbolsEnds
+mod ProfilingDue
+mod ProfilingRuns
+mod ProfilingEnds
+mod Optimised
+mod GeneratedFile
+mod SelfDue
+mod SelfEnds
+mod SelfStops
+mod SelfLines

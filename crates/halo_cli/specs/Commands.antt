@@ -11,14 +11,17 @@ use Rattle.halo_cli.specs.Symbols.{symbols_entry}
 use Rattle.halo_cli.specs.Show.{show_entry}
 use Rattle.halo_cli.specs.Generate.{gen_entry}
 use Rattle.halo_cli.specs.Plan.{plan_entry}
+use Rattle.halo_cli.specs.Profile.{profile_entry}
+use Rattle.halo_cli.specs.Optimise.{optimise_entry}
+use Rattle.halo_cli.specs.SelfRun.{self_entry}
 
 -- the commands that use no policy
 abbrev pub entries : List Entry
-entries = rewrite_entry ∷ run_entry ∷ symbols_entry ∷ show_entry ∷ gen_entry ∷ []
+entries = rewrite_entry ∷ run_entry ∷ symbols_entry ∷ profile_entry ∷ show_entry ∷ gen_entry ∷ []
 
 -- all commands
 abbrev pub all_entries : Policies → List Entry
-all_entries policies = plan_entry policies ∷ entries
+all_entries policies = plan_entry policies ∷ optimise_entry policies ∷ self_entry policies ∷ entries
 
 -- a word that is no command's: nothing comes of it
 abbrev pub no_entry : Entry

@@ -13,6 +13,10 @@ pub mod Symbols
 pub mod Show
 pub mod Generate
 pub mod Plan
+pub mod Profiling
+pub mod Profile
+pub mod Optimise
+pub mod SelfRun
 pub mod RunEnds
 pub mod Commands
 pub mod Ends

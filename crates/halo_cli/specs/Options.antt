@@ -1,10 +1,10 @@
 -- The options of a line by their meaning: numbers, the heap's area, how groups are made, and the policy.
-use Rattle.std.specs.Prelude.{ℕ, ℤ, ◌==◌, ◌||◌, Bool, List, map, length, position, slice_get, Option, IfSome, is_some, unwrap_or, codes, bytes_eq}
+use Rattle.std.specs.Prelude.{ℕ, ℤ, ◌==◌, ◌||◌, Bool, List, map, length, position, slice_get, Option, IfSome, is_some, unwrap_or, codes, bytes_eq, if◌then◌else◌}
 use Rattle.text_fields.specs.Reading.{number_of}
 use Rattle.plan_core.specs.declared.types.Area.{Area}
 use Rattle.group_policy.specs.declared.cut.Cut.{Cut}
 use Rattle.grouping.specs.declared.making.Options.{Options}
-use Rattle.halo_words.specs.Grammar.{Given, option_in}
+use Rattle.halo_words.specs.Grammar.{Given, Asked, option_in}
 
 -- the number in the value of an option, up to a greatest one; 0 where there is none
 abbrev pub number_in : ℕ → Given → List ℕ → ℕ
@@ -27,6 +27,15 @@ options_in given = record {
 -- the name of the policy; empty where a command uses none
 abbrev pub policy_in : Given → List ℕ
 policy_in given = option_in given (codes "policy")
+
+-- the policy of a line that gives none
+abbrev pub default_policy : List ℕ
+default_policy = codes "density"
+
+-- the name of the policy that a line uses: the default of `self`, which has no option for it; empty where a command
+-- uses none
+abbrev pub policy_of : Asked → List ℕ
+policy_of asked = if bytes_eq asked.word (codes "self") then default_policy else policy_in asked.given
 
 -- the names of the policies that are handed in, and what the one at a place may answer of a cut
 pub record Policies : Type 1 where

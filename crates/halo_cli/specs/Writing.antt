@@ -1,8 +1,8 @@
 -- What a command that writes one text, after all its checks, does to input and out; and the line on note.
-use Rattle.std.specs.Prelude.{◌≡◌, ◌≢◌, ℕ, List}
-use Rattle.halo_outside.specs.Seen.{Appends, AppendsPrefix}
+use Rattle.std.specs.Prelude.{◌≡◌, ◌≢◌, ◌⊎◌, ℕ, List}
+use Rattle.halo_outside.specs.Seen.{SinkSeen, Rose, Appends, AppendsPrefix}
 use Rattle.endings.specs.declared.endings.Ending.{Ending}
-use Rattle.endings.specs.declared.endings.Ending.TheVariants.{Done, WriteFault}
+use Rattle.endings.specs.declared.endings.Ending.TheVariants.{Done, WriteFault, Memory}
 use Rattle.endings.specs.Endings.{line_of}
 use Rattle.halo_cli.specs.World.{Outside, World}
 
@@ -24,6 +24,13 @@ pub record WritesOnce (Text : List ℕ → Type 0) (before now : Outside) (endin
   pub done : ending ≡ Done → (text : List ℕ) × Text text × Appends before.out.told now.out.told text
   pub write_fault : ending ≡ WriteFault → (text : List ℕ) × Text text × AppendsPrefix before.out.told now.out.told text
   pub silent : IsStop ending → now.out ≡ before.out
+
+-- a text is due and the command ends by its write: the whole text is on out, or a prefix of it where out failed; or
+-- memory was wanting for the text
+abbrev pub WritesOrLacks : (List ℕ → Type 0) → SinkSeen → SinkSeen → Ending → Type 0
+WritesOrLacks Text before now ending = ((ending ≡ Memory) × (now ≡ before))
+    ⊎ ((text : List ℕ) × Text text × (((ending ≡ Done) × Appends before.told now.told text)
+    ⊎ ((ending ≡ WriteFault) × Rose before.faults now.faults × AppendsPrefix before.told now.told text)))
 
 -- what stands after it is done: the text is on out, and all else but the files' counts is as before
 abbrev pub IsWritten : (List ℕ → Type 0) → World → World → Type 0

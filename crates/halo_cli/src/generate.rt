@@ -35,8 +35,8 @@ pub fn generate_file<O: Sink>(alloc: Global, values: &Values<'_>, out: &mut O) -
     }
 }
 
-// The number in the operand.
-fn nodes_of(values: &Values<'_>) -> u64
+/// The number in the operand.
+pub fn nodes_of(values: &Values<'_>) -> u64
     ensures value { result ≡ nodes_in values.now.given }
     ensures most { result ≤ 30000 }
 {

@@ -13,11 +13,15 @@ mod laws;
 mod limits;
 mod line;
 mod note;
+mod optimise;
 mod options;
 mod plan;
 mod plan_and_file;
+mod profile;
+mod profiling;
 mod rewrite;
 mod run;
+mod self_run;
 mod show;
 mod symbols;
 
@@ -34,6 +38,10 @@ use std::alloc::Global;
 /// `rewrite PLAN FILE` writes the file, changed as the plan says, to `out`. It takes the files that
 /// `exec_image` accepts and the plans that fit them. The input isn't read.
 ///
+/// `optimise [OPTION].. FILE` profiles the run of the file as `profile` does, with the program's input from `input`,
+/// and writes the file, rewritten by a plan of this profile, to `out`. The options are those of `profile` and of
+/// `plan`.
+///
 /// `run [--steps N] FILE` runs the file, as it is, on the flat machine, with the program's input from
 /// `input` and its output to `out`. N is from 0 to 4294967295, and 100000000 where it isn't given. All
 /// memory is taken before the machine starts. The file may be any 32-bit ELF executable for RISC-V that
@@ -42,6 +50,12 @@ use std::alloc::Global;
 /// `symbols [--steps N] PLAN FILE` runs the file under the plan on the symbol machine, with the program's input from
 /// `input` and its output to `out`. It takes the files that `exec_image` accepts and the plans that fit them; the plan
 /// is read first. Memory for the program's blocks is taken while it runs.
+///
+/// `profile [OPTION].. FILE` runs the file as `symbols` does under a plan without sites and rows, and writes the text
+/// of the run's profile to `out`: the contexts of its grants and the graph of their affinity. What the program writes
+/// is dropped. It takes the files that `exec_image` accepts. The options are `--steps N` as of `run`, `--chunks N`,
+/// `--log N` and `--fallback N` as of `plan`, and `--distance N`, 0 to 4096, 128: how many bytes may be accessed
+/// between two blocks that are near each other.
 ///
 /// `plan [OPTION].. PROFILE` writes the text of a plan of the profile to `out`. The policy makes groups of the
 /// profile's contexts, and the plan has the rows and sites that tell them from the other contexts. The input isn't
@@ -59,11 +73,15 @@ use std::alloc::Global;
 /// `gen N` writes the file of `rv_build`'s generated program, with N nodes in each of its lists, to `out`. N is from 1
 /// to 30000. No file and no input is read.
 ///
+/// `self N` profiles this program at distance 4 on an empty input, rewrites it by a plan of the profile with the
+/// default options, and runs the new file. It writes the end of both runs and the numbers of granted blocks, groups
+/// and rows to `out`. No file and no input is read.
+///
 /// Options stand before, between or behind the operands, each at most once, as `--steps N` or
 /// `--steps=N`. No operand and no value is empty or begins with `-`, and a number has no leading zero.
 ///
-/// One line on `note` says how the command ended, unless `rewrite`, `plan`, `show` or `gen` is done. It is tried after
-/// a failed `out`, too.
+/// One line on `note` says how the command ended, unless `rewrite`, `optimise`, `profile`, `plan`, `show`,
+/// `gen` or `self` is done. It is tried after a failed `out`, too.
 ///
 /// The statuses, each with its line and when it comes:
 ///
@@ -82,7 +100,7 @@ use std::alloc::Global;
 /// - 69, `halo: out of memory`: there was no memory.
 /// - 70, `halo: still running after N steps`: the program runs longer.
 /// - 71, `halo: fault KIND at ADDR after N steps`: the program meets an address fault: F1 an access, F3 a jump,
-///   F6 a fetch; of `symbols` also F2 a branch, F4 a system call and F5 a heap function.
+///   F6 a fetch; of `symbols`, `profile` and `optimise` also F2 a branch, F4 a system call and F5 a heap function.
 /// - 72, `halo: illegal at ADDR after N steps`: the program comes to a word that is no instruction to be run.
 pub fn halo<F: Files, I: Source, O: Sink, N: Sink>(
     alloc: Global,

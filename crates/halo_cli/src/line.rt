@@ -10,10 +10,13 @@ ghost use Rattle.halo_cli.specs.Ends.{EndsOf, LineEnds};
 ghost use Rattle.halo_cli.specs.Stops.{stop_ending};
 
 use crate::generate::generate_file;
+use crate::optimise::optimise_file;
 use crate::options::last_wrong;
 use crate::plan::plan_file;
+use crate::profile::profile_file;
 use crate::rewrite::rewrite_file;
 use crate::run::run_file;
+use crate::self_run::self_run;
 use crate::show::show_file;
 use crate::symbols::symbols_file;
 use endings::Ending;
@@ -86,7 +89,7 @@ fn run_command<F: Files, I: Source, O: Sink>(
     out: &mut O,
 ) -> Ending
     requires asks { (words : List (List ℕ)) × AsksFor the_table words values.now }
-    requires passes { Passes (map (λ policy. string_bytes policy.name) policies.now) values.now.given }
+    requires passes { Passes (map (λ policy. string_bytes policy.name) policies.now) values.now }
     ensures { EndsOf (entry_in (policies_of (λ policy. string_bytes policy.name)
         (λ policy cut answer. ⟦<Rule as Fn(Cut) -> i128>⟧.post policy.rule cut answer) policies.now) values.now)
         values.now.given
@@ -95,11 +98,14 @@ fn run_command<F: Files, I: Source, O: Sink>(
 {
     match values.word() {
         "rewrite" => rewrite_file(alloc, values, files, out),
+        "optimise" => optimise_file(alloc, values, policies, files, input, out),
         "run" => run_file(alloc, values, files, input, out),
         "symbols" => symbols_file(alloc, values, files, input, out),
+        "profile" => profile_file(alloc, values, files, input, out),
         "plan" => plan_file(alloc, values, policies, files, out),
         "show" => show_file(alloc, values, files, out),
         "gen" => generate_file(alloc, values, out),
+        "self" => self_run(alloc, values, policies, out),
         _ => unreachable!(),
     }
 }

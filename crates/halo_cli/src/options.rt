@@ -3,7 +3,7 @@ ghost use Rattle.std.specs.Prelude.{◌≡◌, ◌^◌, ◌<◌, ◌≤◌, leng
 ghost use Rattle.plan_core.specs.Plan.{granules as granules_in};
 ghost use Rattle.halo_words.specs.Table.{the_table};
 ghost use Rattle.halo_words.specs.Grammar.{texts, AsksFor};
-ghost use Rattle.halo_cli.specs.Options.{number_in, area_in, options_in, place_named, has_policy};
+ghost use Rattle.halo_cli.specs.Options.{number_in, area_in, options_in, policy_of, place_named, has_policy};
 ghost use Rattle.halo_cli.specs.Valid.{Passes, IsLastWrong};
 
 use group_policy::Policy;
@@ -15,8 +15,11 @@ use text_fields::number;
 /// The most granules of a heap's area.
 const GRANULES: u64 = 1_048_576;
 
+/// The policy of a line that gives none.
+const DEFAULT_POLICY: &str = "density";
+
 /// The number in the value of an option, up to a greatest one; 0 where there is none.
-fn number_of(values: &Values<'_>, name: &str, most: u64) -> u64
+pub fn number_of(values: &Values<'_>, name: &str, most: u64) -> u64
     requires { most < 2 ^ 59 }
     ensures value { result ≡ number_in most values.now.given name.now }
     ensures within { result ≤ most }
@@ -53,6 +56,18 @@ pub fn options_of(values: &Values<'_>) -> Options
     }
 }
 
+/// The name of the policy that a line uses: that of its option, or the default of `self`, which has no option for it;
+/// empty where the command uses none.
+pub fn policy_name<'a>(values: &Values<'a>) -> &'a str
+    ensures { result.now ≡ policy_of values.now }
+{
+    if values.word() == "self" {
+        DEFAULT_POLICY
+    } else {
+        values.option("policy")
+    }
+}
+
 /// The place of the first policy of a name.
 pub fn find_policy(policies: &[Policy], name: &str) -> Option<usize>
     ensures place { result ≡ place_named (map (λ policy. string_bytes policy.name) policies.now) name.now }
@@ -70,11 +85,11 @@ pub fn find_policy(policies: &[Policy], name: &str) -> Option<usize>
 /// the number of words, where the name is the default or the area is too large.
 pub fn last_wrong(words: &[String], values: &Values<'_>, policies: &[Policy]) -> Option<u64>
     ensures { (asks : AsksFor the_table (texts words.now) values.now) → MatchOption result
-        (Passes (map (λ policy. string_bytes policy.name) policies.now) values.now.given)
+        (Passes (map (λ policy. string_bytes policy.name) policies.now) values.now)
         (λ place. IsLastWrong (map (λ policy. string_bytes policy.name) policies.now) (texts words.now) values.now asks
         place) }
 {
-    if !is_there(policies, values.option("policy")) {
+    if !is_there(policies, policy_name(values)) {
         return Some(place_of_value(words, "policy"));
     }
     if granules(area_of(values)) > GRANULES {

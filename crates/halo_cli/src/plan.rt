@@ -35,7 +35,7 @@ pub fn plan_file<F: Files, O: Sink>(
 ) -> Ending
     requires asks { (words : List (List ℕ)) × AsksFor the_table words values.now }
     requires word { values.now.word ≡ codes "plan" }
-    requires passes { Passes (map (λ policy. string_bytes policy.name) policies.now) values.now.given }
+    requires passes { Passes (map (λ policy. string_bytes policy.name) policies.now) values.now }
     ensures { (input : SourceSeen) → EndsOf (plan_entry (policies_of (λ policy. string_bytes policy.name)
         (λ policy cut answer. ⟦<Rule as Fn(Cut) -> i128>⟧.post policy.rule cut answer) policies.now)) values.now.given
         (record { files = F.seen files.old; input = input; out = O.seen out.old })
@@ -118,11 +118,11 @@ fn plan_of_text(
         Err(ProfileRefusal::Memory) => return Err(Ending::Memory),
         Err(why) => return Err(Ending::Profile(BadProfile::Text(why))),
     };
-    let plan = match make_plan(alloc, &profile, area, &options, policy) {
-        Ok(plan) => plan,
+    let planned = match make_plan(alloc, &profile, area, &options, policy) {
+        Ok(planned) => planned,
         Err(_) => return Err(Ending::Memory),
     };
-    match write_plan(alloc, &plan) {
+    match write_plan(alloc, &planned.plan) {
         Ok(text) => Ok(text),
         Err(_) => Err(Ending::Memory),
     }

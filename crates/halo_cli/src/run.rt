@@ -83,8 +83,8 @@ fn load_machine<F: Files>(alloc: Global, name: &str, files: &mut F) -> Result<Fl
     }
 }
 
-// How the command ends after a run of at most so many steps.
-fn ending_of(end: RunEnd, steps: u32) -> Ending
+/// How the command ends after a run of at most so many steps.
+pub fn ending_of(end: RunEnd, steps: u32) -> Ending
     ensures { result ≡ ending_of_run end steps }
 {
     match end {

@@ -89,19 +89,32 @@ policy = record { name = codes "policy"; kind = Name; default = codes "density" 
 abbrev pub plan_choices : List Choice
 plan_choices = chunks ∷ log ∷ fallback ∷ tolerance ∷ edge ∷ policy ∷ []
 
+-- the profile: how many bytes may be accessed between two blocks that are near each other
+abbrev pub distance : Choice
+distance = record { name = codes "distance"; kind = Number 0 4096; default = codes "128" }
+
+abbrev pub profile_choices : List Choice
+profile_choices = steps ∷ distance ∷ chunks ∷ log ∷ fallback ∷ []
+
+abbrev pub optimise_choices : List Choice
+optimise_choices = steps ∷ distance ∷ plan_choices
+
 -- how many nodes a generated program allocates for each of its lists
 abbrev pub node_count : Place
 node_count = record { name = codes "N"; kind = Number 1 30000 }
 
--- `rewrite PLAN FILE`, `run [--steps N] FILE`, `symbols [--steps N] PLAN FILE`, `plan [OPTION]... PROFILE`, `show FILE`
--- and `gen N`
+-- `rewrite PLAN FILE`, `optimise [OPTION]... FILE`, `run [--steps N] FILE`, `symbols [--steps N] PLAN FILE`,
+-- `profile [OPTION]... FILE`, `plan [OPTION]... PROFILE`, `show FILE`, `gen N` and `self N`
 unfoldable pub the_table : List Shape
 the_table = record { word = codes "rewrite"; choices = []; operands = plan_name ∷ file_name ∷ [] }
+    ∷ record { word = codes "optimise"; choices = optimise_choices; operands = file_name ∷ [] }
     ∷ record { word = codes "run"; choices = steps ∷ []; operands = file_name ∷ [] }
     ∷ record { word = codes "symbols"; choices = steps ∷ []; operands = plan_name ∷ file_name ∷ [] }
+    ∷ record { word = codes "profile"; choices = profile_choices; operands = file_name ∷ [] }
     ∷ record { word = codes "plan"; choices = plan_choices; operands = profile_name ∷ [] }
     ∷ record { word = codes "show"; choices = []; operands = file_name ∷ [] }
-    ∷ record { word = codes "gen"; choices = []; operands = node_count ∷ [] } ∷ []
+    ∷ record { word = codes "gen"; choices = []; operands = node_count ∷ [] }
+    ∷ record { word = codes "self"; choices = []; operands = node_count ∷ [] } ∷ []
 
 -- ---- what the types of the program say
 

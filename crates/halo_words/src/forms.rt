@@ -106,6 +106,15 @@ const POLICY: Setting = Setting {
     default: "density",
 };
 
+const DISTANCE: Setting = Setting {
+    name: "distance",
+    kind: Kind::Number {
+        least: 0,
+        most: 4096,
+    },
+    default: "128",
+};
+
 const NODES: Operand = Operand {
     name: "N",
     kind: Kind::Number {
@@ -115,11 +124,18 @@ const NODES: Operand = Operand {
 };
 
 /// All commands.
-const FORMS: [Form; 6] = [
+const FORMS: [Form; 9] = [
     Form {
         word: "rewrite",
         settings: &[],
         operands: &[PLAN, FILE],
+    },
+    Form {
+        word: "optimise",
+        settings: &[
+            STEPS, DISTANCE, CHUNKS, LOG, FALLBACK, TOLERANCE, EDGE, POLICY,
+        ],
+        operands: &[FILE],
     },
     Form {
         word: "run",
@@ -130,6 +146,11 @@ const FORMS: [Form; 6] = [
         word: "symbols",
         settings: &[STEPS],
         operands: &[PLAN, FILE],
+    },
+    Form {
+        word: "profile",
+        settings: &[STEPS, DISTANCE, CHUNKS, LOG, FALLBACK],
+        operands: &[FILE],
     },
     Form {
         word: "plan",
@@ -146,11 +167,16 @@ const FORMS: [Form; 6] = [
         settings: &[],
         operands: &[NODES],
     },
+    Form {
+        word: "self",
+        settings: &[],
+        operands: &[NODES],
+    },
 ];
 
 /// The commands are those of the table.
 #[tactic(auto, unfolding(crate::specs::Table::the_table))]
-pub fn all_forms() -> [Form; 6]
+pub fn all_forms() -> [Form; 9]
     ensures { map shape_of result ≡ the_table }
 {
     FORMS

@@ -1,11 +1,11 @@
 -- Groups that are made greedily are few, and no context is in two of them.
-use Rattle.std.proofs.Common.{◌≡◌, ◌∙◌, ℕ, zero, suc, ℤ, ◌+◌, ◌<◌, ◌≤◌, ◌⊎◌, inl, inr, ◌==◌, Bool, true, false, List, [], ◌∷◌, ◌++◌, length, length-append, insert, refl, sym, ap, subst, arith}
+use Rattle.std.proofs.Common.{◌≡◌, ◌∙◌, ℕ, zero, suc, ℤ, ◌≤◌, ◌⊎◌, inl, inr, ◌==◌, true, false, List, [], ◌∷◌, ◌++◌, length, length-append, insert, refl, sym, subst, arith}
 use Rattle.std.specs.Prelude.{slice_index_or}
 use Rattle.std.proofs.lemmas.Bool.{cases_Bool, eqb-true, or_left, or_right, or_cases, both_ways}
 use Rattle.plan_core.specs.declared.profiles.Edge.{Edge}
 use Rattle.group_policy.specs.declared.cut.Cut.{Cut}
-use Rattle.grouping.specs.Weights.{is_in, with_member}
-use Rattle.grouping.specs.Greedy.{is_taken, ends, Grown, Formed, Begun}
+use Rattle.grouping.specs.Weights.{is_in}
+use Rattle.grouping.specs.Greedy.{is_taken, Grown, Begun}
 use Rattle.grouping.specs.Greedy.Grown.{started, joined}
 use Rattle.grouping.specs.Greedy.Begun.{none, more}
 use Rattle.selectors.specs.Sets.{AreApart}

@@ -1,5 +1,5 @@
 -- A plan that is made of contexts whose addresses are near sites of a file fits the file.
-use Rattle.std.proofs.Common.{◌≡◌, ◌≢◌, ◌∙◌, ℕ, ◌+◌, ◌/◌, ◌^◌, ◌<◌, ◌≤◌, inl, inr, true, false, List, [], ◌∷◌, length, get_or, bit_and, refl, sym, ap, subst, arith, Option, Some, None, IsBitSet, slice_get}
+use Rattle.std.proofs.Common.{◌≡◌, ◌≢◌, ◌∙◌, ℕ, ◌/◌, ◌^◌, ◌<◌, ◌≤◌, inl, inr, true, List, length, get_or, bit_and, refl, sym, subst, arith, Option, Some, None, IsBitSet, slice_get}
 use Rattle.std.specs.Prelude.{All, AllPairs, Any, IsSome}
 use Rattle.std.proofs.Math.Nat.{div-eq_of_lt}
 use Rattle.std.proofs.Math.Pow.{pow_mono}
@@ -9,7 +9,6 @@ use Rattle.std.proofs.lemmas.Nat.{bit_set_by_shift}
 use Rattle.std.proofs.lemmas.List.Elements.{All-get_or, All-from_get_or, All-weaker}
 use Rattle.plan_core.specs.declared.types.Plan.{Plan}
 use Rattle.plan_core.specs.declared.types.PlanLine.{PlanLine}
-use Rattle.plan_core.specs.declared.types.Row.{Row}
 use Rattle.plan_core.specs.Plan.{granules}
 use Rattle.selectors.specs.Fitting.{IsRowBelow, IsSiteOf}
 use Rattle.site_spec.specs.declared.Site.{Site}

@@ -14,14 +14,19 @@ use Rattle.selectors.specs.Fitting.{IsFitting}
 use Rattle.site_spec.specs.declared.Site.{Site}
 use Rattle.site_spec.specs.Sites.{site_at}
 
--- some groups, made greedily as a rule answers, have these rows and sites, and the plan has them with the area
-pub record IsPlanOf (answers : Cut → ℤ → Type 0) (profile : Profile) (area : Area) (options : Options) (plan : Plan) : Type 0 where
-  pub groups : List (List ℕ)
+-- the groups, made greedily as a rule answers, have these rows and sites, and the plan has them with the area
+pub record IsPlanFor (answers : Cut → ℤ → Type 0) (profile : Profile) (area : Area) (options : Options)
+    (groups : List (List ℕ)) (plan : Plan) : Type 0 where
   pub greedy : Greedy answers options.tolerance (length profile.graph.nodes)
       (kept_edges options.least_edge profile.graph.edges) groups
   pub selected : Selected
   pub is_selected : Rows (holds_in profile.contexts) (length profile.contexts) groups selected
   pub parts : plan ≡ record { sites = selected.sites; rows = selected.rows; area = area }
+
+-- the plan is one for some groups
+abbrev pub IsPlanOf : (Cut → ℤ → Type 0) → Profile → Area → Options → Plan → Type 0
+IsPlanOf answers profile area options plan =
+    (groups : List (List ℕ)) × IsPlanFor answers profile area options groups plan
 
 -- its sites stand on contexts and on bits of their own, and its rows have bits of sites; both are few
 abbrev pub IsMade : List (List ℕ) → Plan → Type 0

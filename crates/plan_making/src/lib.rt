@@ -5,4 +5,4 @@ mod fitting;
 mod making;
 
 pub use fitting::plans_of_near_sites_fit;
-pub use making::make_plan;
+pub use making::{Planned, make_plan};

@@ -1,9 +1,9 @@
 -- The policy of the line is there, and what it makes of the profile is what the command writes.
-use Rattle.std.proofs.Common.{◌≡◌, ◌∙◌, ◌≤◌, slice_get, Some, refl, sym, subst}
+use Rattle.std.proofs.Common.{◌≡◌, ◌∙◌, ◌≤◌, slice_get, Some, codes, refl, sym, subst}
 use Rattle.std.proofs.lemmas.Option.{slice_get_read}
 use Rattle.grouping.specs.declared.making.Options.{Options}
 use Rattle.halo_cli.specs.Options.{policy_in}
-use Rattle.halo_cli.proofs.Valid.{named_some, policy_plain, least_edge}
+use Rattle.halo_cli.proofs.Valid.{named_some, has_by_option, policy_plain, least_edge}
 use Rattle.halo_cli.proofs.PlanEnds.{plan_stops, written_at}
 use Rattle.halo_cli.proofs.Stopping.{moves_of}
 use Rattle.halo_cli.proofs.plan.plan_file.Goals as goal
@@ -11,7 +11,8 @@ use Rattle.halo_cli.proofs.plan.plan_file.Goals as goal
 pub unreachable-requires : goal.unreachable-requires
 unreachable-requires g c = named_some _ (policy_in c.args.values.now.given)
     (policy_plain c.what_a_line_gives_fits.ensures.options c.requires.asks.0 c.args.values.now c.requires.asks.1
-    c.requires.word) c.requires.passes.policy
+    c.requires.word)
+    (has_by_option _ c.args.values.now (codes "plan") c.requires.word refl c.requires.passes.policy)
     (sym (rw c.option.ensures at c.find_policy.ensures.place) ∙ c.in_default.is)
 
 pub read_and_plan-requires-clause-least_edge : goal.read_and_plan-requires-clause-least_edge
@@ -40,7 +41,11 @@ returns-in-Ok-write_all g c = λ input.
         input = refl;
         done = λ is. (
           c.in-Ok.text.items,
-          (c.in-Some.place, sym (rw c.option.ensures at c.in-Some.ensures.place), written_at _ _ c.index-policies-place.result at _ _ _ _ _ _ made),
+          (
+            c.in-Some.place,
+            sym (rw c.option.ensures at c.in-Some.ensures.place),
+            written_at _ _ c.index-policies-place.result at _ _ _ _ _ _ made,
+          ),
           rw c.deref.ensures.value at c.in-Ok-write_all.ensures.whole,
         );
         write_fault = λ is. absurd (cc);
@@ -65,7 +70,11 @@ returns g c = λ input.
         done = λ is. absurd (cc);
         write_fault = λ is. (
           c.in-Ok.text.items,
-          (c.in-Some.place, sym (rw c.option.ensures at c.in-Some.ensures.place), written_at _ _ c.index-policies-place.result at _ _ _ _ _ _ made),
+          (
+            c.in-Some.place,
+            sym (rw c.option.ensures at c.in-Some.ensures.place),
+            written_at _ _ c.index-policies-place.result at _ _ _ _ _ _ made,
+          ),
           rw c.deref.ensures.value at c.in-Err-write_all.ensures.part,
         );
         silent = λ stop. absurd (stop.1 refl);

@@ -1,0 +1,3 @@
+-- Lemmas on contexts of runs and on grants.
+mod NearContexts
+mod Counting
