@@ -1,5 +1,7 @@
 -- Co-allocatable blocks, from the next grant of the one's context and the one before of the other's.
-use Rattle.std.proofs.Common.{◌≡◌, ◌<◌, ◌≤◌, ◌+◌, ◌-◌, ◌==◌, ◌&&◌, ℕ, Bool, true, false, not, nat_le, List, [], ◌∷◌, length, take, get_or, min, max, inl, inr, Option, Some, None, refl, sym, ◌∙◌, arith, length-take, length-drop, get_or-take, get_or-drop}
+use Rattle.std.proofs.Common.{◌≡◌, ◌<◌, ◌≤◌, ◌+◌, ◌-◌, ◌==◌, ◌&&◌, ℕ, Bool, true, false, not, nat_le, List, [], ◌∷◌}
+use Rattle.std.proofs.Common.{length, take, get_or, min, max, inl, inr, Option, Some, None, refl, sym, ◌∙◌, arith}
+use Rattle.std.proofs.Common.{length-take, length-drop, get_or-take, get_or-drop}
 use Rattle.std.specs.List.{list_all}
 use Rattle.std.proofs.lemmas.List.Recursion.{and_from_places, and_fails_at}
 use Rattle.affinity.specs.Weights.{strictly_between, co_allocatable}

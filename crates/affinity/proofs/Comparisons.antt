@@ -1,5 +1,6 @@
 -- Tests of numbers and what they say.
-use Rattle.std.proofs.Common.{◌≡◌, ◌==◌, ◌&&◌, ◌<◌, ◌≤◌, ℕ, Bool, true, false, nat_le, Result, Ok, Err, IsOk, OnOk, refl, arith}
+use Rattle.std.proofs.Common.{◌≡◌, ◌==◌, ◌&&◌, ◌<◌, ◌≤◌, ℕ, Bool, true, false, nat_le, Result, Ok, Err, IsOk, OnOk}
+use Rattle.std.proofs.Common.{refl, arith}
 use Rattle.std.proofs.lemmas.Bool.Decides.{nat_tests}
 
 pub is_far : (a b : ℕ) → b < a → nat_le a b ≡ false

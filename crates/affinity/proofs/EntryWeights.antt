@@ -1,11 +1,15 @@
 -- What one entry more adds to a weight, in the whole list and over the entries that are kept.
-use Rattle.std.proofs.Common.{◌≡◌, ◌==◌, ◌&&◌, ◌<◌, ◌≤◌, ◌+◌, ◌*◌, ℕ, zero, suc, Bool, true, false, cond, not, nat_le, List, [], ◌∷◌, ◌++◌, length, take, drop, get_or, max, refl, ap, sym, ◌∙◌, subst, arith, length-append, add-one}
+use Rattle.std.proofs.Common.{◌≡◌, ◌==◌, ◌&&◌, ◌<◌, ◌≤◌, ◌+◌, ◌*◌, ℕ, zero, suc, Bool, true, false, cond, not, nat_le}
+use Rattle.std.proofs.Common.{List, [], ◌∷◌, ◌++◌, length, take, drop, get_or, max, refl, ap, sym, ◌∙◌, subst, arith}
+use Rattle.std.proofs.Common.{length-append, add-one}
 use Rattle.std.specs.Prelude.{All}
-use Rattle.std.proofs.lemmas.List.{drop_more, drop_all, drop_at, take_at, take_all, take_more, take-append-le, drop-append-le, get_or_append_left, get_or_push, get_or-append-add, length_push}
+use Rattle.std.proofs.lemmas.List.{drop_more, drop_all, drop_at, take_at, take_all, take_more, take-append-le}
+use Rattle.std.proofs.lemmas.List.{drop-append-le, get_or_append_left, get_or_push, get_or-append-add, length_push}
 use Rattle.std.proofs.lemmas.List.Folds.{list_all-append}
 use Rattle.std.proofs.lemmas.List.Elements.{All-take}
 use Rattle.affinity.specs.declared.entries.Entry.{Entry}
-use Rattle.affinity.specs.Weights.{count_below, sum_below, widths, block_at, is_in_reach, co_allocatable, are_of, counts, weight_in}
+use Rattle.affinity.specs.Weights.{count_below, sum_below, widths, block_at, is_in_reach, co_allocatable, are_of}
+use Rattle.affinity.specs.Weights.{counts, weight_in}
 use Rattle.affinity.specs.Near.{span, in_reach, kept_of, has_none, counts_newest, counts_near, near_count}
 use Rattle.affinity.proofs.Comparisons.{is_near, near_from, turned}
 use Rattle.affinity.proofs.Sums.{one, one_le, same_count, same_sum, ends_count, at_end, count_ends}

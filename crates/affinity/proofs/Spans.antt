@@ -1,5 +1,6 @@
 -- How far the first entry of some is from the last, and which entries are in reach.
-use Rattle.std.proofs.Common.{◌≡◌, ◌<◌, ◌≤◌, ◌+◌, ◌-◌, ℕ, nat_le, true, false, List, [], ◌∷◌, ◌++◌, length, get_or, cond, suc, refl, ap, ◌∙◌, arith}
+use Rattle.std.proofs.Common.{◌≡◌, ◌<◌, ◌≤◌, ◌+◌, ◌-◌, ℕ, nat_le, true, false, List, [], ◌∷◌, ◌++◌, length, get_or}
+use Rattle.std.proofs.Common.{cond, suc, refl, ap, ◌∙◌, arith}
 use Rattle.affinity.specs.declared.entries.Entry.{Entry}
 use Rattle.affinity.specs.Weights.{widths}
 use Rattle.affinity.specs.Near.{span, in_reach, last_width}

@@ -1,5 +1,7 @@
 -- What an affinity stands for after one event more.
-use Rattle.std.proofs.Common.{◌≡◌, ◌==◌, ◌||◌, ◌<◌, ◌≤◌, ◌+◌, ◌^◌, ℕ, Bool, true, false, not, nat_lt, if◌then◌else◌, List, [], ◌∷◌, ◌++◌, length, get_or, set, Some, None, inl, inr, refl, ap, sym, ◌∙◌, subst, arith, length-set, get_or-set_same, get_or-set_other}
+use Rattle.std.proofs.Common.{◌≡◌, ◌==◌, ◌||◌, ◌<◌, ◌≤◌, ◌+◌, ◌^◌, ℕ, Bool, true, false, not, nat_lt, if◌then◌else◌}
+use Rattle.std.proofs.Common.{List, [], ◌∷◌, ◌++◌, length, get_or, set, Some, None, inl, inr, refl, ap, sym, ◌∙◌, subst}
+use Rattle.std.proofs.Common.{arith, length-set, get_or-set_same, get_or-set_other}
 use Rattle.std.specs.Prelude.{All, count_by}
 use Rattle.std.specs.List.{list_any}
 use Rattle.std.proofs.lemmas.List.{get_or_append_left, get_or_push, length_push, get_or_default}
@@ -15,17 +17,20 @@ use Rattle.plan_core.specs.declared.profiles.Event.TheVariants.{Grant, Access, R
 use Rattle.plan_core.specs.declared.profiles.Node.{Node}
 use Rattle.affinity.specs.declared.entries.Entry.{Entry}
 use Rattle.affinity.specs.declared.entries.Pair.{Pair}
-use Rattle.affinity.specs.Histories.{is_in, context_granted, block_released, entry_of, contexts_of, released_in, accesses_of, same_block, access_list, different, MayFollow, Legal}
+use Rattle.affinity.specs.Histories.{is_in, context_granted, block_released, entry_of, contexts_of, released_in}
+use Rattle.affinity.specs.Histories.{accesses_of, same_block, access_list, different, MayFollow, Legal}
 use Rattle.affinity.specs.Weights.{weight_in}
 use Rattle.affinity.specs.Near.{in_reach, ends_with, near_count}
-use Rattle.affinity.specs.State.{Seen, blank_affinity, no_node, one_grant, one_access, grant_counted, access_counted, with_grant, with_block, entered, weight_at}
+use Rattle.affinity.specs.State.{Seen, blank_affinity, no_node, one_grant, one_access, grant_counted, access_counted}
+use Rattle.affinity.specs.State.{with_grant, with_block, entered, weight_at}
 use Rattle.affinity.specs.Follows.{Follows}
 use Rattle.affinity.specs.Pushed.{IsLive, Takes, Pushed}
 use Rattle.affinity.proofs.Comparisons.{is_same, is_other}
 use Rattle.affinity.proofs.Sums.{one}
 use Rattle.affinity.proofs.Newest.{follows_push, follows_block}
 use Rattle.affinity.proofs.EntryWeights.{weight_push, weight_grant}
-use Rattle.affinity.proofs.HistoryLaws.{grown, kept_same, access_same, access_new, ends_in_reach, fresh, is_in_push, different_push, dense_push, legal_push, legal_nil}
+use Rattle.affinity.proofs.HistoryLaws.{grown, kept_same, access_same, access_new, ends_in_reach, fresh, is_in_push}
+use Rattle.affinity.proofs.HistoryLaws.{different_push, dense_push, legal_push, legal_nil}
 
 -- the nodes count the grants of each context and the entries of its blocks
 abbrev pub NodesOf : List ℕ → List Entry → List Node → Type 0

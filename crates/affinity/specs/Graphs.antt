@@ -1,5 +1,6 @@
 -- The graph of a list of events.
-use Rattle.std.specs.Prelude.{◌≡◌, ℕ, ◌<◌, ◌==◌, ◌&&◌, Bool, true, List, length, count_by, slice_index, slice_index_or, All}
+use Rattle.std.specs.Prelude.{◌≡◌, ℕ, ◌<◌, ◌==◌, ◌&&◌, Bool, true, List, length, count_by, slice_index, slice_index_or}
+use Rattle.std.specs.Prelude.{All}
 use Rattle.std.specs.List.{list_any}
 use Rattle.plan_core.specs.declared.profiles.Event.{Event}
 use Rattle.plan_core.specs.declared.profiles.Edge.{Edge}

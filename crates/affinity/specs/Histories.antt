@@ -1,5 +1,6 @@
 -- What a list of events says: the contexts of its grants, the blocks released, the access list, whether it is legal.
-use Rattle.std.specs.Prelude.{◌≡◌, ℕ, ◌+◌, ◌-◌, ◌^◌, ◌<◌, ◌≤◌, ◌==◌, if◌then◌else◌, Bool, false, List, [], ◌∷◌, ◌++◌, length, filter_map, Option, Some, None}
+use Rattle.std.specs.Prelude.{◌≡◌, ℕ, ◌+◌, ◌-◌, ◌^◌, ◌<◌, ◌≤◌, ◌==◌, if◌then◌else◌, Bool, false, List, [], ◌∷◌, ◌++◌}
+use Rattle.std.specs.Prelude.{length, filter_map, Option, Some, None}
 use Rattle.std.specs.List.{dedup, list_any}
 use Rattle.plan_core.specs.declared.profiles.Event.{Event}
 use Rattle.plan_core.specs.declared.profiles.Event.TheVariants.{Grant, Access, Release}

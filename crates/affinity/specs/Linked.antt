@@ -1,5 +1,6 @@
 -- How the notes of grants name the grants of the same context before and after them.
-use Rattle.std.specs.Prelude.{◌≡◌, ℕ, ◌+◌, ◌<◌, ◌≤◌, List, length, map, slice_index, slice_index_or, All, MatchOption, Option}
+use Rattle.std.specs.Prelude.{◌≡◌, ℕ, ◌+◌, ◌<◌, ◌≤◌, List, length, map, slice_index, slice_index_or, All, MatchOption}
+use Rattle.std.specs.Prelude.{Option}
 use Rattle.affinity.specs.declared.grants.GrantNote.{GrantNote}
 
 -- the contexts of the notes

@@ -1,5 +1,6 @@
 -- The entries that are kept: the last one and those in reach of it.
-use Rattle.std.specs.Prelude.{ℕ, ◌+◌, ◌-◌, ◌==◌, ◌&&◌, nat_le, nat_lt, not, if◌then◌else◌, Bool, false, List, [], ◌∷◌, length, slice_index_or}
+use Rattle.std.specs.Prelude.{ℕ, ◌+◌, ◌-◌, ◌==◌, ◌&&◌, nat_le, nat_lt, not, if◌then◌else◌, Bool, false, List, [], ◌∷◌}
+use Rattle.std.specs.Prelude.{length, slice_index_or}
 use Rattle.std.specs.List.{list_all}
 use Rattle.affinity.specs.declared.entries.Entry.{Entry}
 use Rattle.affinity.specs.Weights.{block_at, count_below, is_in_reach, co_allocatable, are_of}

@@ -1,5 +1,6 @@
 -- The list of events that an affinity stands for.
-use Rattle.std.specs.Prelude.{◌≡◌, ℕ, ◌^◌, ◌<◌, ◌≤◌, nat_lt, not, Bool, true, List, length, slice_index_or, slice_get, All, Some}
+use Rattle.std.specs.Prelude.{◌≡◌, ℕ, ◌^◌, ◌<◌, ◌≤◌, nat_lt, not, Bool, true, List, length, slice_index_or, slice_get}
+use Rattle.std.specs.Prelude.{All, Some}
 use Rattle.plan_core.specs.declared.profiles.Event.{Event}
 use Rattle.plan_core.specs.declared.profiles.Event.TheVariants.{Grant, Access, Release}
 use Rattle.affinity.specs.Histories.{is_in, contexts_of, released_in, accesses_of, access_list, different, Legal}

@@ -1,5 +1,6 @@
 -- What contracts see of an affinity and of its parts.
-use Rattle.std.specs.Prelude.{ℕ, ◌+◌, ◌-◌, ◌==◌, ◌&&◌, if◌then◌else◌, Bool, List, [], ◌∷◌, ◌++◌, length, take, unwrap_or, slice_set, slice_index_or, Option, Some, None}
+use Rattle.std.specs.Prelude.{ℕ, ◌+◌, ◌-◌, ◌==◌, ◌&&◌, if◌then◌else◌, Bool, List, [], ◌∷◌, ◌++◌, length, take}
+use Rattle.std.specs.Prelude.{unwrap_or, slice_set, slice_index_or, Option, Some, None}
 use Rattle.std.specs.Map.{lookup}
 use Rattle.plan_core.specs.declared.profiles.Node.{Node}
 use Rattle.affinity.specs.declared.entries.Entry.{Entry}

@@ -1,5 +1,6 @@
 -- The weight of a pair of contexts, as a count over the positions of the whole access list.
-use Rattle.std.specs.Prelude.{ℕ, zero, suc, ◌+◌, ◌==◌, ◌&&◌, nat_le, min, max, if◌then◌else◌, not, Bool, List, [], ◌∷◌, length, take, drop, slice_index, slice_index_or}
+use Rattle.std.specs.Prelude.{ℕ, zero, suc, ◌+◌, ◌==◌, ◌&&◌, nat_le, min, max, if◌then◌else◌, not, Bool, List, [], ◌∷◌}
+use Rattle.std.specs.Prelude.{length, take, drop, slice_index, slice_index_or}
 use Rattle.std.specs.List.{list_all}
 use Rattle.plan_core.specs.declared.profiles.Event.{Event}
 use Rattle.affinity.specs.declared.entries.Entry.{Entry}

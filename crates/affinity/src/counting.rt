@@ -1,5 +1,6 @@
 // The weights of pairs of contexts, and what one entry adds to them.
-ghost use Rattle.std.specs.Prelude.{◌≡◌, ℕ, ◌+◌, ◌*◌, ◌-◌, ◌^◌, ◌<◌, ◌≤◌, if◌then◌else◌, length, drop, slice_index, slice_index_or, All, List, min, max};
+ghost use Rattle.std.specs.Prelude.{◌≡◌, ℕ, ◌+◌, ◌*◌, ◌-◌, ◌^◌, ◌<◌, ◌≤◌, if◌then◌else◌, length, drop, slice_index};
+ghost use Rattle.std.specs.Prelude.{slice_index_or, All, List, min, max};
 ghost use Rattle.indexmap.specs.IndexMap.{spare};
 ghost use Rattle.affinity.specs.declared.entries.Entry.{Entry};
 ghost use Rattle.affinity.specs.State.{same_pair, weight_at};

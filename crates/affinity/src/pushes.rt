@@ -1,5 +1,6 @@
 // An affinity, which takes events one by one and counts as it goes.
-ghost use Rattle.std.specs.Prelude.{◌≡◌, ℕ, ◌+◌, ◌-◌, ◌^◌, ◌<◌, ◌≤◌, ◌++◌, ◌∷◌, [], List, All, length, slice_get, slice_index_or, vec_len, ◌↔◌, IsTrue, true, Some, OnOk, OnErr, IfOk};
+ghost use Rattle.std.specs.Prelude.{◌≡◌, ℕ, ◌+◌, ◌-◌, ◌^◌, ◌<◌, ◌≤◌, ◌++◌, ◌∷◌, [], List, All, length, slice_get};
+ghost use Rattle.std.specs.Prelude.{slice_index_or, vec_len, ◌↔◌, IsTrue, true, Some, OnOk, OnErr, IfOk};
 ghost use Rattle.std.specs.Vec.{vec_capacity};
 ghost use Rattle.indexmap.specs.IndexMap.{spare};
 ghost use Rattle.plan_core.specs.declared.profiles.Event.{Event as EventValue};

@@ -1,5 +1,6 @@
 // The entries that are kept: the last one and those in reach of it.
-ghost use Rattle.std.specs.Prelude.{◌≡◌, ℕ, ◌+◌, ◌-◌, ◌^◌, ◌<◌, ◌≤◌, ◌++◌, ◌∷◌, [], length, drop, take, List, OnOk, OnErr};
+ghost use Rattle.std.specs.Prelude.{◌≡◌, ℕ, ◌+◌, ◌-◌, ◌^◌, ◌<◌, ◌≤◌, ◌++◌, ◌∷◌, [], length, drop, take, List, OnOk};
+ghost use Rattle.std.specs.Prelude.{OnErr};
 ghost use Rattle.std.specs.VecDeque.{deque_len};
 ghost use Rattle.affinity.specs.Weights.{block_at};
 ghost use Rattle.affinity.specs.Near.{span, in_reach, last_width, ends_with, has_none};

@@ -11,7 +11,8 @@ use Rattle.place_spec.specs.Layout.{Block, Layout}
 use Rattle.place_spec.specs.Place.{Placed, spot_of, granule_of, taken, with_block, placed_at, placed}
 use Rattle.place_spec.specs.Sound.{Apart, Sound}
 use Rattle.block_laws.specs.Blocks.{IsNew, IsOneOf, StandsBeside}
-use Rattle.block_laws.proofs.Items.{any_none, any_first, any_rest, any_cases, any_of, all_of, itself, pairs_first, pairs_rest}
+use Rattle.block_laws.proofs.Items.{any_none, any_first, any_rest, any_cases, any_of, all_of, itself, pairs_first}
+use Rattle.block_laws.proofs.Items.{pairs_rest}
 
 -- blocks with one more
 module _ (b : Block) where

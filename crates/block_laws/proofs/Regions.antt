@@ -1,8 +1,10 @@
 -- The cells of a new block, and those of a moved one: its old cells with zero cells behind them.
-use Rattle.std.proofs.Common.{◌≡◌, ◌⊎◌, ℕ, zero, suc, ◌+◌, ◌-◌, ◌*◌, ◌/◌, ◌%◌, ◌<◌, ◌≤◌, ◌==◌, cond, Bool, true, false, List, ◌∷◌, length, take, drop, replicate, sym, ◌∙◌, subst, inl, inr, refl, ap, ap₂, arith}
+use Rattle.std.proofs.Common.{◌≡◌, ◌⊎◌, ℕ, zero, suc, ◌+◌, ◌-◌, ◌*◌, ◌/◌, ◌%◌, ◌<◌, ◌≤◌, ◌==◌, cond, Bool, true, false}
+use Rattle.std.proofs.Common.{List, ◌∷◌, length, take, drop, replicate, sym, ◌∙◌, subst, inl, inr, refl, ap, ap₂, arith}
 use Rattle.std.specs.Prelude.{Option, Some, option_map, option_and_then, nat_lt}
 use Rattle.std.proofs.lemmas.Bool.{cases_lt, and_from, and_parts, ltb-true, lt-ltb}
-use Rattle.std.proofs.lemmas.List.{length-replicate, length-take, get_or-replicate, get_or_append_left, get_or-append_right, get_or-take, get_or-drop, take_all}
+use Rattle.std.proofs.lemmas.List.{length-replicate, length-take, get_or-replicate, get_or_append_left}
+use Rattle.std.proofs.lemmas.List.{get_or-append_right, get_or-take, get_or-drop, take_all}
 use Rattle.machine_spec.specs.Memory.{Range, byte_of, all_from}
 use Rattle.machine_spec.specs.Widths.{number_of}
 use Rattle.flat_spec.specs.Stores.{bytes_from}

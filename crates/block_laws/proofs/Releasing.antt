@@ -1,11 +1,13 @@
 -- A release takes away the block at its granule alone, and each block is found by its first granule.
-use Rattle.std.proofs.Common.{◌≡◌, ◌≢◌, ◌⊎◌, ℕ, ◌<◌, ◌==◌, cond, Bool, true, false, List, [], ◌∷◌, get_or, sym, ◌∙◌, subst, inl, inr, refl, ap, arith}
+use Rattle.std.proofs.Common.{◌≡◌, ◌≢◌, ◌⊎◌, ℕ, ◌<◌, ◌==◌, cond, Bool, true, false, List, [], ◌∷◌, get_or, sym, ◌∙◌}
+use Rattle.std.proofs.Common.{subst, inl, inr, refl, ap, arith}
 use Rattle.std.specs.Prelude.{Option, Some, None, All, AllPairs, find, not, nat_lt, slice_set}
 use Rattle.std.proofs.lemmas.Bool.{eqb-true, eqb-false, eq-eqb, ne_eqb, not-true}
 use Rattle.std.proofs.lemmas.List.Elements.{All-nil, All-cons, All-filter, filter_passes}
 use Rattle.plan_core.specs.declared.types.Area.{Area}
 use Rattle.place_spec.specs.Layout.{Block, Layout, chunk_of}
-use Rattle.place_spec.specs.Release.{with_hole, block_at, without_block, chunk_at, left_chunk, freed, released_block, released}
+use Rattle.place_spec.specs.Release.{with_hole, block_at, without_block, chunk_at, left_chunk, freed, released_block}
+use Rattle.place_spec.specs.Release.{released}
 use Rattle.place_spec.specs.Sound.{Apart, Sound}
 use Rattle.block_laws.specs.Blocks.{IsOneOf, StandsWithout}
 use Rattle.block_laws.proofs.Items.{any_none, any_first, any_rest, any_cases, itself, pairs_first, pairs_rest}

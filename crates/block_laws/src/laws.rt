@@ -1,6 +1,7 @@
 // Laws of requests, each a function that does nothing, whose contract is proved. Its body calls the laws
 // that it rests on.
-ghost use Rattle.std.specs.Prelude.{◌≡◌, ℕ, ◌+◌, ◌*◌, ◌%◌, ◌<◌, ◌≤◌, List, [], ◌∷◌, ◌++◌, All, Bool, true, Some, nat_lt, length, replicate};
+ghost use Rattle.std.specs.Prelude.{◌≡◌, ℕ, ◌+◌, ◌*◌, ◌%◌, ◌<◌, ◌≤◌, List, [], ◌∷◌, ◌++◌, All, Bool, true, Some};
+ghost use Rattle.std.specs.Prelude.{nat_lt, length, replicate};
 ghost use Rattle.plan_core.specs.declared.types.Area.{Area};
 ghost use Rattle.plan_core.specs.declared.types.Row.{Row};
 ghost use Rattle.place_spec.specs.Layout.{Layout};

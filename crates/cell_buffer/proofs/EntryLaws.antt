@@ -1,10 +1,14 @@
 -- Laws of entries: which cells there are, and what a write of an entry makes of them.
-use Rattle.std.proofs.Common.{◌≡◌, ℕ, zero, suc, ◌+◌, ◌-◌, ◌*◌, ◌/◌, ◌%◌, ◌<◌, ◌≤◌, true, false, List, [], ◌∷◌, length, take, drop, replicate, ◌++◌, slice_set, slice_index_or, le_refl, take_all, length-take-le, drop_of_length-le, length-append, length-drop, refl, ap, ap₂, sym, ◌∙◌, subst, arith, get_or-set_same, get_or-set_other, set-set}
+use Rattle.std.proofs.Common.{◌≡◌, ℕ, zero, suc, ◌+◌, ◌-◌, ◌*◌, ◌/◌, ◌%◌, ◌<◌, ◌≤◌, true, false, List, [], ◌∷◌, length}
+use Rattle.std.proofs.Common.{take, drop, replicate, ◌++◌, slice_set, slice_index_or, le_refl, take_all, length-take-le}
+use Rattle.std.proofs.Common.{drop_of_length-le, length-append, length-drop, refl, ap, ap₂, sym, ◌∙◌, subst, arith}
+use Rattle.std.proofs.Common.{get_or-set_same, get_or-set_other, set-set}
 use Rattle.std.proofs.Math.Seq.{take-nil}
 use Rattle.std.proofs.lemmas.List.{set-get_or}
 use Rattle.sym_cells.specs.declared.Mark.{Mark}
 use Rattle.sym_cells.specs.declared.Mark.TheVariants as mark
-use Rattle.sym_cells.specs.Cells.{Cell, Bytes, blank_cell, zero_cell, cell_in, mark_in, mark_at, put_in, put_listed, put_all}
+use Rattle.sym_cells.specs.Cells.{Cell, Bytes, blank_cell, zero_cell, cell_in, mark_in, mark_at, put_in, put_listed}
+use Rattle.sym_cells.specs.Cells.{put_all}
 use Rattle.sym_cells.specs.Cells as cells
 use Rattle.sym_cells.specs.Memory.{overlaid}
 use Rattle.cell_buffer.specs.declared.entry.Entry.{Entry}

@@ -1,5 +1,6 @@
 // Stores into a list of entries, four to a cell.
-ghost use Rattle.std.specs.Prelude.{◌≡◌, ◌+◌, ◌*◌, ◌/◌, ◌%◌, ◌<◌, ◌≤◌, ◌∷◌, ◌++◌, [], false, length, take, drop, slice_set};
+ghost use Rattle.std.specs.Prelude.{◌≡◌, ◌+◌, ◌*◌, ◌/◌, ◌%◌, ◌<◌, ◌≤◌, ◌∷◌, ◌++◌, [], false, length, take, drop};
+ghost use Rattle.std.specs.Prelude.{slice_set};
 ghost use Rattle.rv_isa.specs.declared.Width.{Width};
 ghost use Rattle.sym_cells.specs.Cells.{blank_cell, cell_in, put_listed};
 ghost use Rattle.sym_cells.specs.Moves.{marks_left, store};

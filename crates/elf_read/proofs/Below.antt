@@ -1,5 +1,6 @@
 -- The least number below a bound that passes a test.
-use Rattle.std.proofs.Common.{◌≡◌, ℕ, zero, suc, ◌+◌, ◌<◌, Bool, true, false, refl, ap, sym, ◌∙◌, inl, inr, arith, Option, Some, None, add-one}
+use Rattle.std.proofs.Common.{◌≡◌, ℕ, zero, suc, ◌+◌, ◌<◌, Bool, true, false, refl, ap, sym, ◌∙◌, inl, inr, arith}
+use Rattle.std.proofs.Common.{Option, Some, None, add-one}
 use Rattle.std.proofs.lemmas.Bool.{cases_lt}
 use Rattle.elf_read.specs.Refusals.{first_below}
 
@@ -13,7 +14,8 @@ below_hit p i (suc n) none h l = elim (cases_lt i n) [
   | inr k ↦ let e : n ≡ i = omega arith in rw (e, none, h) refl
 ]
 
-last_below : (p : ℕ → Bool) (n i : ℕ) (o : Option ℕ) (b : Bool) → first_below p n ≡ o → p n ≡ b → first_below p (suc n) ≡ None → i < suc n
+last_below : (p : ℕ → Bool) (n i : ℕ) (o : Option ℕ) (b : Bool) → first_below p n ≡ o → p n ≡ b
+    → first_below p (suc n) ≡ None → i < suc n
     → (first_below p n ≡ None → i < n → p i ≡ false) → p i ≡ false
 last_below p n i (Some k) b e f h l ih = absurd (let q : Some k ≡ None = rw e at h in cc)
 last_below p n i None true e f h l ih = absurd (let q : Some n ≡ None = rw (e, f) at h in cc)
@@ -34,7 +36,8 @@ below_all p (suc n) h = rw (below_all p n (λ k l. h k (omega arith)), h n (omeg
 abbrev pub IsFirst : (ℕ → Bool) → ℕ → ℕ → Type 0
 IsFirst p n i = (i < n) × (p i ≡ true) × ((k : ℕ) → k < i → p k ≡ false)
 
-some_below : (p : ℕ → Bool) (n i : ℕ) (o : Option ℕ) (b : Bool) → first_below p n ≡ o → p n ≡ b → first_below p (suc n) ≡ Some i
+some_below : (p : ℕ → Bool) (n i : ℕ) (o : Option ℕ) (b : Bool) → first_below p n ≡ o → p n ≡ b
+    → first_below p (suc n) ≡ Some i
     → (first_below p n ≡ Some i → IsFirst p n i) → IsFirst p (suc n) i
 some_below p n i (Some k) b e f h ih =
     let q : Some k ≡ Some i = rw e at h in

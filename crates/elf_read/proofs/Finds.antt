@@ -1,5 +1,6 @@
 -- What `position` and `find` say of a list.
-use Rattle.std.proofs.Common.{◌≡◌, ℕ, suc, ◌+◌, ◌≤◌, Bool, true, false, List, [], ◌∷◌, length, nat_lt, refl, sym, ap, ◌∙◌, arith, Some, None}
+use Rattle.std.proofs.Common.{◌≡◌, ℕ, suc, ◌+◌, ◌≤◌, Bool, true, false, List, [], ◌∷◌, length, nat_lt, refl, sym, ap}
+use Rattle.std.proofs.Common.{◌∙◌, arith, Some, None}
 use Rattle.std.specs.List.{All, find, position, position_or_len, slice_get}
 use Rattle.std.proofs.lemmas.Bool.Decides.{nat_tests}
 use Rattle.std.proofs.lemmas.List.Elements.{All-cons, All-head, All-nil, All-tail}
@@ -9,7 +10,8 @@ none_at : {X : Type 0} (p : X → Bool) (xs : List X) → length xs ≤ position
 none_at p [] h = All-nil (λ x. p x ≡ false)
 none_at p (x ∷ xs) h = decide (p x) refl (none_at p xs)
   where
-    decide : (b : Bool) → p x ≡ b → (length xs ≤ position_or_len p xs → All (λ y. p y ≡ false) xs) → All (λ y. p y ≡ false) (x ∷ xs)
+    decide : (b : Bool) → p x ≡ b → (length xs ≤ position_or_len p xs → All (λ y. p y ≡ false) xs)
+        → All (λ y. p y ≡ false) (x ∷ xs)
     decide true e ih = absurd (let q : suc (length xs) ≤ 0 = rw e at h in omega arith)
     decide false e ih =
         let q : suc (length xs) ≤ 1 + position_or_len p xs = rw e at h in

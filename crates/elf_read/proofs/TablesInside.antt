@@ -1,5 +1,7 @@
 -- What passed checks of the sections say of the symbol table and its strings.
-use Rattle.std.proofs.Common.{◌≡◌, ◌≢◌, ℕ, zero, suc, ◌+◌, ◌<◌, ◌≤◌, Bool, true, false, not, ◌&&◌, ◌||◌, List, [], ◌∷◌, length, get_or, nat_eq, nat_lt, refl, sym, ◌∙◌, subst, arith, inl, inr, Option, Some, None, ◌%◌}
+use Rattle.std.proofs.Common.{◌≡◌, ◌≢◌, ℕ, zero, suc, ◌+◌, ◌<◌, ◌≤◌, Bool, true, false, not, ◌&&◌, ◌||◌, List, [], ◌∷◌}
+use Rattle.std.proofs.Common.{length, get_or, nat_eq, nat_lt, refl, sym, ◌∙◌, subst, arith, inl, inr, Option, Some}
+use Rattle.std.proofs.Common.{None, ◌%◌}
 use Rattle.std.specs.List.{find, slice_get}
 use Rattle.std.proofs.lemmas.Bool.{cases_lt}
 use Rattle.std.proofs.lemmas.Bool.Decides.{nat_tests}
@@ -24,7 +26,8 @@ good bytes all i [] h k d l = absurd (omega arith)
 good bytes all i (s ∷ ss) h k d l = decide (is_bad bytes all i s) refl (λ e j m. good bytes all (i + 1) ss e j d m) k l
   where
     decide : (b : Bool) → is_bad bytes all i s ≡ b
-        → (section_from bytes all (i + 1) ss ≡ None → (j : ℕ) → j < length ss → is_bad bytes all (i + 1 + j) (get_or ss j d) ≡ false)
+        → (section_from bytes all (i + 1) ss ≡ None → (j : ℕ) → j < length ss
+        → is_bad bytes all (i + 1 + j) (get_or ss j d) ≡ false)
         → (k : ℕ) → k < length (s ∷ ss) → is_bad bytes all (i + k) (get_or (s ∷ ss) k d) ≡ false
     decide true e ih k l = absurd (let q : Some (SectionOut i) ≡ None = rw e at h in cc)
     decide false e ih zero l = let z : i + 0 ≡ i = omega arith in rw z e
@@ -40,7 +43,8 @@ or_false : (a b : Bool) → (a || b) ≡ false → (a ≡ false) × (b ≡ false
 or_false true b h = absurd (cc)
 or_false false b h = (refl, h)
 
-inside : (k o n bytes : ℕ) → (not (nat_eq k 0) && (not (nat_eq k 8) && nat_lt bytes (o + n))) ≡ false → k ≢ 0 → k ≢ 8 → o + n ≤ bytes
+inside : (k o n bytes : ℕ) → (not (nat_eq k 0) && (not (nat_eq k 8) && nat_lt bytes (o + n))) ≡ false → k ≢ 0 → k ≢ 8
+    → o + n ≤ bytes
 inside k o n bytes h a b = grind (arith, nat_tests)
 
 not_false : (b : Bool) → not b ≡ false → b ≡ true
@@ -60,13 +64,16 @@ link_is : (bytes : ℕ) (ss : List Section) (i : ℕ) (d : Section) → section_
     → is_strtab (slice_get ss (get_or ss i d).link) ≡ true
 unfolding section_out
 link_is bytes ss i d h e =
-    let p : (i < length ss) × (is_symtab (get_or ss i d) ≡ true) × ((k : ℕ) → k < i → is_symtab (get_or ss k d) ≡ false) = position-Some is_symtab ss i d e in
+    let p : (i < length ss) × (is_symtab (get_or ss i d) ≡ true)
+    × ((k : ℕ) → k < i → is_symtab (get_or ss k d) ≡ false) = position-Some is_symtab ss i d e in
     let g : is_bad bytes ss (0 + i) (get_or ss i d) ≡ false = good bytes ss 0 ss h i d p.0 in
     let z : 0 + i ≡ i = omega arith in
     let t : nat_eq i i ≡ true = grind (arith, nat_tests) in
-    let b : (is_at (symtab_index ss) (0 + i) && is_bad_table ss (get_or ss i d)) ≡ false = (or_false (leaves_file bytes (get_or ss i d)) _ g).1 in
+    let b : (is_at (symtab_index ss) (0 + i) && is_bad_table ss (get_or ss i d)) ≡ false =
+    (or_false (leaves_file bytes (get_or ss i d)) _ g).1 in
     let f : is_bad_table ss (get_or ss i d) ≡ false = rw (z, e, t) at b in
-    not_false _ (or_false (not (nat_eq ((get_or ss i d).size % 16) 0)) _ (or_false (not (nat_eq (get_or ss i d).entry_size 16)) _ f).1).1
+    not_false _ (or_false (not (nat_eq ((get_or ss i d).size % 16) 0)) _
+    (or_false (not (nat_eq (get_or ss i d).entry_size 16)) _ f).1).1
 
 strtab_inside : (ss : List Section) (i : ℕ) → is_strtab (slice_get ss i) ≡ true → i < length ss
 strtab_inside ss i h = elim (cases_lt i (length ss)) [
@@ -74,23 +81,28 @@ strtab_inside ss i h = elim (cases_lt i (length ss)) [
   | inr g ↦ absurd (let q : false ≡ true = rw (slice_get_past ss i g) at h in cc)
 ]
 
-pub linked : (bytes : ℕ) (ss : List Section) (i : ℕ) (d : Section) → section_out bytes ss ≡ None → symtab_index ss ≡ Some i
+pub linked : (bytes : ℕ) (ss : List Section) (i : ℕ) (d : Section) → section_out bytes ss ≡ None
+    → symtab_index ss ≡ Some i
     → (get_or ss i d).link < length ss
 linked bytes ss i d h e = strtab_inside ss (get_or ss i d).link (link_is bytes ss i d h e)
 
-pub tables_are : (bytes : ℕ) (ss : List Section) (i : ℕ) (d e : Section) → section_out bytes ss ≡ None → symtab_index ss ≡ Some i
+pub tables_are : (bytes : ℕ) (ss : List Section) (i : ℕ) (d e : Section) → section_out bytes ss ≡ None
+    → symtab_index ss ≡ Some i
     → IsTables bytes ss record { symbols = get_or ss i d; strings = get_or ss (get_or ss i d).link e }
 tables_are bytes ss i d e h at =
     let t : Section = get_or ss i d in
-    let p : (i < length ss) × (is_symtab t ≡ true) × ((k : ℕ) → k < i → is_symtab (get_or ss k d) ≡ false) = position-Some is_symtab ss i d at in
+    let p : (i < length ss) × (is_symtab t ≡ true) × ((k : ℕ) → k < i → is_symtab (get_or ss k d) ≡ false) =
+    position-Some is_symtab ss i d at in
     let l : t.link < length ss = linked bytes ss i d h at in
     let s : slice_get ss t.link ≡ Some (get_or ss t.link e) = slice_get-get_or ss t.link e l in
     let k : is_strtab (Some (get_or ss t.link e)) ≡ true = rw s at (link_is bytes ss i d h at) in
     record {
       symbols = find_is is_symtab ss i at ∙ slice_get-get_or ss i d p.0;
       strings = s;
-      symbols_inside = inside t.kind t.offset t.size bytes (stays bytes ss i d h p.0) (two t.kind p.1).0 (two t.kind p.1).1;
-      strings_inside = inside (get_or ss t.link e).kind (get_or ss t.link e).offset (get_or ss t.link e).size bytes (stays bytes ss t.link e h l)
+      symbols_inside = inside t.kind t.offset t.size bytes (stays bytes ss i d h p.0) (two t.kind p.1).0
+          (two t.kind p.1).1;
+      strings_inside = inside (get_or ss t.link e).kind (get_or ss t.link e).offset (get_or ss t.link e).size bytes
+          (stays bytes ss t.link e h l)
           (three _ k).0 (three _ k).1;
     }
   where
@@ -104,7 +116,8 @@ some_is : {A : Type 0} (x y : A) (o : Option A) → o ≡ Some x → o ≡ Some 
 some_is x y o h g = cc
 
 -- the symbol table that is found lies in the file
-pub symbols_inside : (bytes : ℕ) (ss : List Section) (t : Section) → section_out bytes ss ≡ None → find is_symtab ss ≡ Some t
+pub symbols_inside : (bytes : ℕ) (ss : List Section) (t : Section) → section_out bytes ss ≡ None
+    → find is_symtab ss ≡ Some t
     → t.offset + t.size ≤ bytes
 symbols_inside bytes ss t h f = decide (symtab_index ss) refl
   where
@@ -116,12 +129,14 @@ symbols_inside bytes ss t h f = decide (symtab_index ss) refl
         subst (λ (x : Section). x.offset + x.size ≤ bytes) same tables.symbols_inside
 
 -- and so do its strings
-pub strings_inside : (bytes : ℕ) (ss : List Section) (s : Section) → section_out bytes ss ≡ None → strings_of ss (find is_symtab ss) ≡ Some s
+pub strings_inside : (bytes : ℕ) (ss : List Section) (s : Section) → section_out bytes ss ≡ None
+    → strings_of ss (find is_symtab ss) ≡ Some s
     → s.offset + s.size ≤ bytes
 strings_inside bytes ss s h f = decide (symtab_index ss) refl
   where
     decide : (o : Option ℕ) → symtab_index ss ≡ o → s.offset + s.size ≤ bytes
-    decide None e = absurd (let q : strings_of ss None ≡ Some s = subst (λ o. strings_of ss o ≡ Some s) (none_found ss e) f in cc)
+    decide None e = absurd (let q : strings_of ss None ≡ Some s =
+        subst (λ o. strings_of ss o ≡ Some s) (none_found ss e) f in cc)
     decide (Some i) e =
         let t : Section = get_or ss i s in
         let tables : IsTables bytes ss _ = tables_are bytes ss i s s h e in

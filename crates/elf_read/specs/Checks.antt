@@ -1,6 +1,7 @@
 -- What a file, a segment, a section or a name is refused for, one test a check (gABI, "ELF
 -- Identification", "ELF Header", "Program Header", "Section Header", "Symbol Table").
-use Rattle.std.specs.Prelude.{ℕ, ◌+◌, ◌-◌, ◌*◌, ◌%◌, ◌==◌, Bool, false, not, ◌&&◌, ◌||◌, List, [], ◌∷◌, length, take, drop, Option, Some, None, nat_lt, bytes_eq, bit_and, slice_get, if◌then◌else◌}
+use Rattle.std.specs.Prelude.{ℕ, ◌+◌, ◌-◌, ◌*◌, ◌%◌, ◌==◌, Bool, false, not, ◌&&◌, ◌||◌, List, [], ◌∷◌, length, take}
+use Rattle.std.specs.Prelude.{drop, Option, Some, None, nat_lt, bytes_eq, bit_and, slice_get, if◌then◌else◌}
 use Rattle.std.specs.List.{list_any}
 use Rattle.elf_spec.specs.declared.Segment.{Segment}
 use Rattle.elf_spec.specs.declared.Section.{Section}
@@ -37,7 +38,8 @@ is_refused_kind kind = (kind == 2) || ((kind == 3) || ((kind == 6) || (kind == 7
 -- a loaded segment in a file of so many bytes
 abbrev pub is_segment_out : ℕ → Segment → Bool
 is_segment_out bytes s =
-    is_loaded s && (nat_lt s.mem_size s.file_size || (nat_lt bytes (s.offset + s.file_size) || nat_lt 0x7ff00000 (s.vaddr + s.mem_size)))
+    is_loaded s && (nat_lt s.mem_size s.file_size || (nat_lt bytes (s.offset + s.file_size) || nat_lt 0x7ff00000
+    (s.vaddr + s.mem_size)))
 
 -- two ranges, each given by its start and size, have a number in common
 abbrev pub is_shared : ℕ → ℕ → ℕ → ℕ → Bool

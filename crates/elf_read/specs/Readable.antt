@@ -36,6 +36,7 @@ pub record ReadableFacts (file : List ℕ) : Type 0 where
   pub sections : All (IsSectionInside (length file)) (sections_of file)
   -- the symbol table and its strings lie in the file
   pub symbols : (t : Section) → find is_symtab (sections_of file) ≡ Some t → t.offset + t.size ≤ length file
-  pub strings : (s : Section) → strings_of (sections_of file) (find is_symtab (sections_of file)) ≡ Some s → s.offset + s.size ≤ length file
+  pub strings : (s : Section) → strings_of (sections_of file) (find is_symtab (sections_of file)) ≡ Some s
+      → s.offset + s.size ≤ length file
   -- each name is a part of the file
   pub names : All (λ s. s.name_at + s.name_len ≤ length file) (symbols_of file)

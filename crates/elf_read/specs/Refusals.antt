@@ -1,9 +1,14 @@
 -- Why a file is refused: the first check that it fails, with its item, and the lowest index.
-use Rattle.std.specs.Prelude.{◌≡◌, ℕ, zero, suc, ◌+◌, ◌*◌, ◌/◌, ◌==◌, Bool, not, ◌&&◌, ◌||◌, ◌⊎◌, List, [], ◌∷◌, ◌++◌, length, Option, Some, None, option_map, position, find, sum_by, nat_lt, Result, Ok, Err, if◌then◌else◌}
+use Rattle.std.specs.Prelude.{◌≡◌, ℕ, zero, suc, ◌+◌, ◌*◌, ◌/◌, ◌==◌, Bool, not, ◌&&◌, ◌||◌, ◌⊎◌, List, [], ◌∷◌, ◌++◌}
+use Rattle.std.specs.Prelude.{length, Option, Some, None, option_map, position, find, sum_by, nat_lt, Result, Ok, Err}
+use Rattle.std.specs.Prelude.{if◌then◌else◌}
 use Rattle.std.specs.List.{list_any}
 use Rattle.std.specs.Option.{option_or}
 use Rattle.elf_read.specs.declared.refusals.ElfRefusal.{ElfRefusal}
-use Rattle.elf_read.specs.declared.refusals.ElfRefusal.TheVariants.{NotElf, WrongClass, WrongOrder, WrongVersion, NotExec, NotRiscv, Flags, TableOut, TooMany, SegmentKind, SegmentOut, SegmentOverlap, TooLarge, SectionOut, NameOut}
+use Rattle.elf_read.specs.declared.refusals.ElfRefusal.TheVariants.{NotElf, WrongClass, WrongOrder, WrongVersion}
+use Rattle.elf_read.specs.declared.refusals.ElfRefusal.TheVariants.{NotExec, NotRiscv, Flags, TableOut, TooMany}
+use Rattle.elf_read.specs.declared.refusals.ElfRefusal.TheVariants.{SegmentKind, SegmentOut, SegmentOverlap, TooLarge}
+use Rattle.elf_read.specs.declared.refusals.ElfRefusal.TheVariants.{SectionOut, NameOut}
 use Rattle.elf_read.specs.declared.refusals.Table.TheVariants.{Program, Section as SectionTable}
 use Rattle.elf_spec.specs.declared.Segment.{Segment}
 use Rattle.elf_spec.specs.declared.Section.{Section}
@@ -11,7 +16,9 @@ use Rattle.elf_spec.specs.Fields.{byte_at, word_at}
 use Rattle.elf_spec.specs.Records.{e_flags, e_machine, e_phnum, e_type, sections_of, segments_of}
 use Rattle.elf_spec.specs.Relocations.{is_at}
 use Rattle.elf_spec.specs.Tables.{is_symtab, strings_of, symtab_index}
-use Rattle.elf_read.specs.Checks.{has_bad_flags, has_header, has_version, is_bad_table, is_name_out, is_program_table_out, is_refused_kind, is_section_table_out, is_segment_out, leaves_file, load_size, meets}
+use Rattle.elf_read.specs.Checks.{has_bad_flags, has_header, has_version, is_bad_table, is_name_out}
+use Rattle.elf_read.specs.Checks.{is_program_table_out, is_refused_kind, is_section_table_out, is_segment_out}
+use Rattle.elf_read.specs.Checks.{leaves_file, load_size, meets}
 
 -- the first refusal of two
 infixr 5 ◌or_else◌
@@ -73,7 +80,8 @@ segment_out bytes segments = option_map SegmentOut (position (is_segment_out byt
 -- the first segment that meets one before it
 abbrev pub overlap_after : List Segment → ℕ → List Segment → Option ℕ
 overlap_after front i [] = None
-overlap_after front i (s ∷ ss) = if list_any (λ t. meets t s) front then Some i else overlap_after (front ++ s ∷ []) (i + 1) ss
+overlap_after front i (s ∷ ss) = if list_any (λ t. meets t s) front then Some i else
+    overlap_after (front ++ s ∷ []) (i + 1) ss
 
 unfoldable pub segment_overlap : List Segment → Option ElfRefusal
 segment_overlap segments = option_map SegmentOverlap (overlap_after [] 0 segments)
@@ -103,7 +111,8 @@ first_below p (suc n) = option_or (first_below p n) (if p n then Some n else Non
 -- the first symbol whose name is not in the strings
 abbrev pub name_out_in : List ℕ → Option Section → Option Section → Option ElfRefusal
 name_out_in file (Some table) (Some strings) =
-    option_map NameOut (first_below (λ i. is_name_out file strings (word_at file (table.offset + 16 * i))) (table.size / 16))
+    option_map NameOut (first_below (λ i. is_name_out file strings (word_at file (table.offset + 16 * i)))
+    (table.size / 16))
 name_out_in file _ _ = None
 
 unfoldable pub name_out : List ℕ → List Section → Option ElfRefusal

@@ -1,5 +1,6 @@
 -- The symbol table and its strings inside a file of so many bytes, and what is read of them.
-use Rattle.std.specs.Prelude.{◌≡◌, ℕ, ◌+◌, ◌*◌, ◌/◌, ◌≤◌, ◌⊎◌, Bool, List, Some, None, Result, Ok, Err, find, option_map}
+use Rattle.std.specs.Prelude.{◌≡◌, ℕ, ◌+◌, ◌*◌, ◌/◌, ◌≤◌, ◌⊎◌, Bool, List, Some, None, Result, Ok, Err, find}
+use Rattle.std.specs.Prelude.{option_map}
 use Rattle.elf_read.specs.declared.refusals.ElfRefusal.{ElfRefusal}
 use Rattle.elf_read.specs.declared.refusals.ElfRefusal.TheVariants.{Memory, NameOut}
 use Rattle.elf_read.specs.declared.symbols.Tables.{Tables}

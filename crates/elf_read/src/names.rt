@@ -57,7 +57,8 @@ pub(crate) fn name_lengths(
     requires end_inside { end ≤ strings.size }
     requires end_zero { 0 < end → byte_at file.now (strings.offset + (end - 1)) ≡ 0 }
     ensures count { IfOk result (λ v. vec_len v ≡ end) }
-    ensures each { IfOk result (λ v. (k : ℕ) → k < end → slice_index v.items k ≡ name_len_at file.now (strings.offset + k)) }
+    ensures each { IfOk result (λ v. (k : ℕ) → k < end → slice_index v.items k
+        ≡ name_len_at file.now (strings.offset + k)) }
 {
     let mut lengths = vec![in alloc; 0u32; end]?;
     let mut length = 0;

@@ -1,6 +1,7 @@
 // The symbols of a file (gABI, "Symbol Table").
 
-ghost use Rattle.std.specs.Prelude.{◌≡◌, ◌≢◌, ℕ, ◌+◌, ◌-◌, ◌*◌, ◌/◌, ◌<◌, ◌≤◌, ◌^◌, length, false, find, slice_index, IfOk, IfNone, IfSome};
+ghost use Rattle.std.specs.Prelude.{◌≡◌, ◌≢◌, ℕ, ◌+◌, ◌-◌, ◌*◌, ◌/◌, ◌<◌, ◌≤◌, ◌^◌, length, false, find, slice_index};
+ghost use Rattle.std.specs.Prelude.{IfOk, IfNone, IfSome};
 ghost use Rattle.elf_spec.specs.Fields.{byte_at, word_at};
 ghost use Rattle.elf_spec.specs.Records.{entries};
 ghost use Rattle.elf_spec.specs.Tables.{is_symtab, name_len_at, symbol_at};
@@ -44,7 +45,8 @@ fn symbol(file: &[u8], at: usize, strings: Section, lengths: &[u32]) -> Symbol
     requires inside { at + 16 ≤ length file.now }
     requires strings_inside { strings.offset + strings.size ≤ length file.now }
     requires few { length lengths.now ≤ strings.size }
-    requires each { (k : ℕ) → k < length lengths.now → slice_index lengths.now k ≡ name_len_at file.now (strings.offset + k) }
+    requires each { (k : ℕ) → k < length lengths.now → slice_index lengths.now k
+        ≡ name_len_at file.now (strings.offset + k) }
     requires named { word_at file.now at ≢ 0 → word_at file.now at < length lengths.now }
     ensures { result ≡ symbol_at file.now strings at }
 {
@@ -89,9 +91,12 @@ fn symbol_list(
     requires symbols_inside { tables.symbols.offset + tables.symbols.size ≤ length file.now }
     requires strings_inside { tables.strings.offset + tables.strings.size ≤ length file.now }
     requires few { length lengths.now ≤ tables.strings.size }
-    requires each { (k : ℕ) → k < length lengths.now → slice_index lengths.now k ≡ name_len_at file.now (tables.strings.offset + k) }
-    requires named { (i : ℕ) → i < tables.symbols.size / 16 → word_at file.now (tables.symbols.offset + 16 * i) ≢ 0 → word_at file.now (tables.symbols.offset + 16 * i) < length lengths.now }
-    ensures { IfOk result (λ list. list ≡ entries (symbol_at file.now tables.strings) 16 tables.symbols.offset (tables.symbols.size / 16)) }
+    requires each { (k : ℕ) → k < length lengths.now → slice_index lengths.now k
+        ≡ name_len_at file.now (tables.strings.offset + k) }
+    requires named { (i : ℕ) → i < tables.symbols.size / 16 → word_at file.now (tables.symbols.offset + 16 * i) ≢ 0
+        → word_at file.now (tables.symbols.offset + 16 * i) < length lengths.now }
+    ensures { IfOk result (λ list. list ≡ entries (symbol_at file.now tables.strings) 16 tables.symbols.offset
+        (tables.symbols.size / 16)) }
 {
     let at = tables.symbols.offset as usize;
     let mut list = SymbolList::new(alloc);

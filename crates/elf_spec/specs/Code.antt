@@ -1,6 +1,7 @@
 -- The code of an executable: the aligned words of its executable sections, which are those of kind
 -- PROGBITS (1) and nonzero size with the flags ALLOC (2) and EXECINSTR (4) (gABI, "Section Header").
-use Rattle.std.specs.Prelude.{ℕ, ◌+◌, ◌-◌, ◌%◌, ◌==◌, List, Bool, not, ◌&&◌, find, Option, None, option_map, if◌then◌else◌, nat_le, nat_lt}
+use Rattle.std.specs.Prelude.{ℕ, ◌+◌, ◌-◌, ◌%◌, ◌==◌, List, Bool, not, ◌&&◌, find, Option, None, option_map}
+use Rattle.std.specs.Prelude.{if◌then◌else◌, nat_le, nat_lt}
 use Rattle.elf_spec.specs.declared.Section.{Section}
 use Rattle.elf_spec.specs.Fields.{is_set, word_at}
 use Rattle.elf_spec.specs.Records.{sections_of}

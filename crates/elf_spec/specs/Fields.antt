@@ -12,7 +12,8 @@ half_at file at = slice_index file at + slice_index file (at + 1) * 2 ^ 8
 -- four bytes
 unfoldable pub word_at : List ℕ → ℕ → ℕ
 word_at file at =
-    slice_index file at + slice_index file (at + 1) * 2 ^ 8 + slice_index file (at + 2) * 2 ^ 16 + slice_index file (at + 3) * 2 ^ 24
+    slice_index file at + slice_index file (at + 1) * 2 ^ 8 + slice_index file (at + 2) * 2 ^ 16 + slice_index file
+    (at + 3) * 2 ^ 24
 
 -- the four bytes of a number below 2^32
 unfoldable pub word_bytes : ℕ → List ℕ

@@ -1,9 +1,11 @@
 -- The heap functions of an executable, known by the names of its symbols: those with binding GLOBAL
 -- (1) or WEAK (2), type FUNC (2) and a section (gABI, "Symbol Table").
-use Rattle.std.specs.Prelude.{ℕ, ◌/◌, ◌%◌, ◌==◌, List, [], ◌∷◌, Bool, not, ◌&&◌, ◌||◌, find, filter_map, Option, option_map, codes, bytes_eq}
+use Rattle.std.specs.Prelude.{ℕ, ◌/◌, ◌%◌, ◌==◌, List, [], ◌∷◌, Bool, not, ◌&&◌, ◌||◌, find, filter_map, Option}
+use Rattle.std.specs.Prelude.{option_map, codes, bytes_eq}
 use Rattle.elf_spec.specs.declared.Symbol.{Symbol}
 use Rattle.elf_spec.specs.declared.HeapName.{HeapName}
-use Rattle.elf_spec.specs.declared.HeapName.TheVariants.{Malloc, Calloc, Realloc, Free, MallocR, CallocR, ReallocR, FreeR}
+use Rattle.elf_spec.specs.declared.HeapName.TheVariants.{Malloc, Calloc, Realloc, Free, MallocR, CallocR, ReallocR}
+use Rattle.elf_spec.specs.declared.HeapName.TheVariants.{FreeR}
 use Rattle.elf_spec.specs.Tables.{symbols_of, symbol_name}
 
 abbrev pub heap_name : HeapName → List ℕ
@@ -22,7 +24,8 @@ heap_names = Malloc ∷ Calloc ∷ Realloc ∷ Free ∷ MallocR ∷ CallocR ∷ 
 
 abbrev pub is_heap_symbol : List ℕ → HeapName → Symbol → Bool
 is_heap_symbol file name s =
-    bytes_eq (symbol_name file s) (heap_name name) && (((s.info / 16 == 1) || (s.info / 16 == 2)) && ((s.info % 16 == 2) && not (s.section == 0)))
+    bytes_eq (symbol_name file s) (heap_name name) && (((s.info / 16 == 1) || (s.info / 16 == 2)) &&
+    ((s.info % 16 == 2) && not (s.section == 0)))
 
 -- the address of a heap function; none where the executable lacks it
 abbrev pub heap_entry : List ℕ → HeapName → Option ℕ

@@ -13,7 +13,8 @@ put_half at n file = slice_set (slice_set file at (n % 256)) (at + 1) (n / 256)
 
 unfoldable pub put_word : ℕ → ℕ → List ℕ → List ℕ
 put_word at n file =
-    slice_set (slice_set (slice_set (slice_set file at (n % 256)) (at + 1) (n / 256 % 256)) (at + 2) (n / 65536 % 256)) (at + 3) (n / 16777216)
+    slice_set (slice_set (slice_set (slice_set file at (n % 256)) (at + 1) (n / 256 % 256)) (at + 2) (n / 65536 % 256))
+    (at + 3) (n / 16777216)
 
 abbrev pub patched : List Patch → List ℕ → List ℕ
 patched [] file = file
@@ -52,5 +53,6 @@ table_end old ss = up16 (length old) + 32 * (e_phnum old + length ss)
 
 unfoldable pub new_file : List ℕ → List Patch → List NewSegment → List ℕ
 new_file old ps ss =
-    (((front old ps (length ss) ++ replicate (up16 (length old) - length old) 0) ++ take (32 * e_phnum old) (drop (e_phoff old) old))
+    (((front old ps (length ss) ++ replicate (up16 (length old) - length old) 0)
+    ++ take (32 * e_phnum old) (drop (e_phoff old) old))
     ++ new_headers (table_end old ss) ss) ++ contents (table_end old ss) ss

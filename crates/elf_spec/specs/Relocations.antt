@@ -1,7 +1,8 @@
 -- The relocation entries of an executable that was linked with its relocations kept (gABI,
 -- "Relocation"; psABI, "Relocations"): those of the RELA sections (kind 4) without the ALLOC flag
 -- (2) that name the symbol table and apply to a section with the ALLOC flag.
-use Rattle.std.specs.Prelude.{ℕ, ◌/◌, ◌==◌, List, Bool, false, not, ◌&&◌, filter, flat_map, Option, Some, None, slice_get}
+use Rattle.std.specs.Prelude.{ℕ, ◌/◌, ◌==◌, List, Bool, false, not, ◌&&◌, filter, flat_map, Option, Some, None}
+use Rattle.std.specs.Prelude.{slice_get}
 use Rattle.std.specs.List.{list_any}
 use Rattle.elf_spec.specs.declared.Section.{Section}
 use Rattle.elf_spec.specs.declared.Reloc.{Reloc}
@@ -19,7 +20,8 @@ is_alloc None = false
 
 abbrev pub is_kept_rela : List Section → Section → Bool
 is_kept_rela sections s =
-    s.kind == 4 && not (is_set 2 s.flags) && is_at (symtab_index sections) s.link && is_alloc (slice_get sections s.info)
+    s.kind == 4 && not (is_set 2 s.flags) && is_at (symtab_index sections) s.link && is_alloc
+    (slice_get sections s.info)
 
 -- the entries in order of section and entry
 abbrev pub relocs_of : List ℕ → List Reloc

@@ -1,6 +1,7 @@
 -- The symbol table and its strings (gABI, "Symbol Table", "String Table"): the table is the first
 -- section of kind SYMTAB (2), its names stand in the section that its link names.
-use Rattle.std.specs.Prelude.{ℕ, ◌+◌, ◌/◌, ◌==◌, List, [], Bool, not, drop, take, position, find, Option, Some, None, if◌then◌else◌, slice_get}
+use Rattle.std.specs.Prelude.{ℕ, ◌+◌, ◌/◌, ◌==◌, List, [], Bool, not, drop, take, position, find, Option, Some, None}
+use Rattle.std.specs.Prelude.{if◌then◌else◌, slice_get}
 use Rattle.std.specs.List.{prefix_len}
 use Rattle.elf_spec.specs.declared.Section.{Section}
 use Rattle.elf_spec.specs.declared.Symbol.{Symbol}

@@ -1,5 +1,6 @@
 -- Bytes and words of a list after words were put into it.
-use Rattle.std.proofs.Common.{◌≡◌, ℕ, zero, suc, ◌+◌, ◌/◌, ◌%◌, ◌<◌, ◌≤◌, inl, inr, List, [], ◌∷◌, length, get_or, slice_index, refl, sym, ◌∙◌, subst, arith}
+use Rattle.std.proofs.Common.{◌≡◌, ℕ, zero, suc, ◌+◌, ◌/◌, ◌%◌, ◌<◌, ◌≤◌, inl, inr, List, [], ◌∷◌, length, get_or}
+use Rattle.std.proofs.Common.{slice_index, refl, sym, ◌∙◌, subst, arith}
 use Rattle.std.proofs.lemmas.Grind.{common_steps}
 use Rattle.std.proofs.lemmas.List.{length-set}
 use Rattle.std.proofs.lemmas.List.Elements.{All-cons, All-weaker}
@@ -31,22 +32,26 @@ length-patched [] bs = refl
 length-patched (p ∷ ps) bs = length-patched ps (put_word p.offset p.word bs) ∙ length-put_word p.offset p.word bs
 
 -- a write leaves the bytes beside it
-pub byte-put_word : (at w : ℕ) (bs : List ℕ) (i : ℕ) → IsBeside at 4 i → slice_index (put_word at w bs) i ≡ slice_index bs i
+pub byte-put_word : (at w : ℕ) (bs : List ℕ) (i : ℕ) → IsBeside at 4 i
+    → slice_index (put_word at w bs) i ≡ slice_index bs i
 unfolding put_word
 byte-put_word at w bs i b = grind (arith, common_steps)
 
-pub byte-put_half : (at w : ℕ) (bs : List ℕ) (i : ℕ) → IsBeside at 2 i → slice_index (put_half at w bs) i ≡ slice_index bs i
+pub byte-put_half : (at w : ℕ) (bs : List ℕ) (i : ℕ) → IsBeside at 2 i
+    → slice_index (put_half at w bs) i ≡ slice_index bs i
 unfolding put_half
 byte-put_half at w bs i b = grind (arith, common_steps)
 
-pub byte-patched : (ps : List Patch) (bs : List ℕ) (i : ℕ) → All (λ p. IsBeside p.offset 4 i) ps → slice_index (patched ps bs) i ≡ slice_index bs i
+pub byte-patched : (ps : List Patch) (bs : List ℕ) (i : ℕ) → All (λ p. IsBeside p.offset 4 i) ps
+    → slice_index (patched ps bs) i ≡ slice_index bs i
 byte-patched [] bs i w = refl
 byte-patched (p ∷ ps) bs i w =
     byte-patched ps (put_word p.offset p.word bs) i (all_tail (λ q. IsBeside q.offset 4 i) p ps w)
     ∙ byte-put_word p.offset p.word bs i (all_head (λ q. IsBeside q.offset 4 i) p ps w)
 
 -- the bytes of a word where it was written
-pub byte_written : (at w : ℕ) (bs : List ℕ) (k : ℕ) → k < 4 → at + 4 ≤ length bs → slice_index (put_word at w bs) (at + k) ≡ slice_index (word_bytes w) k
+pub byte_written : (at w : ℕ) (bs : List ℕ) (k : ℕ) → k < 4 → at + 4 ≤ length bs
+    → slice_index (put_word at w bs) (at + k) ≡ slice_index (word_bytes w) k
 unfolding put_word word_bytes
 byte_written at w bs zero l h = let e : at + 0 ≡ at = omega arith in rw e (grind (arith, common_steps))
 byte_written at w bs (suc zero) l h = grind (arith, common_steps)
@@ -55,16 +60,19 @@ byte_written at w bs (suc (suc (suc zero))) l h = grind (arith, common_steps)
 byte_written at w bs (suc (suc (suc (suc k)))) l h = absurd (omega arith)
 
 -- words of equal bytes are equal
-pub word_same : (a b : List ℕ) (i j : ℕ) → ((k : ℕ) → k < 4 → slice_index a (i + k) ≡ slice_index b (j + k)) → word_at a i ≡ word_at b j
+pub word_same : (a b : List ℕ) (i j : ℕ) → ((k : ℕ) → k < 4 → slice_index a (i + k) ≡ slice_index b (j + k))
+    → word_at a i ≡ word_at b j
 unfolding word_at
 word_same a b i j h =
-    let e : slice_index a i ≡ slice_index b j = subst (λ x. slice_index a x ≡ slice_index b j) (omega arith) (subst (λ x. slice_index a (i + 0) ≡ slice_index b x) (omega arith) (h 0 (omega arith))) in
+    let e : slice_index a i ≡ slice_index b j = subst (λ x. slice_index a x ≡ slice_index b j) (omega arith)
+    (subst (λ x. slice_index a (i + 0) ≡ slice_index b x) (omega arith) (h 0 (omega arith))) in
     let e1 : slice_index a (i + 1) ≡ slice_index b (j + 1) = h 1 (omega arith) in
     let e2 : slice_index a (i + 2) ≡ slice_index b (j + 2) = h 2 (omega arith) in
     let e3 : slice_index a (i + 3) ≡ slice_index b (j + 3) = h 3 (omega arith) in
     rw (e, e1, e2, e3)
 
-pub half_same : (a b : List ℕ) (i : ℕ) → slice_index a i ≡ slice_index b i → slice_index a (i + 1) ≡ slice_index b (i + 1) → half_at a i ≡ half_at b i
+pub half_same : (a b : List ℕ) (i : ℕ) → slice_index a i ≡ slice_index b i
+    → slice_index a (i + 1) ≡ slice_index b (i + 1) → half_at a i ≡ half_at b i
 unfolding half_at
 half_same a b i e f = rw (e, f)
 
@@ -75,7 +83,9 @@ word-bytes w = omega arith
 
 pub word_written : (at w : ℕ) (bs : List ℕ) → at + 4 ≤ length bs → word_at (put_word at w bs) at ≡ w
 word_written at w bs h =
-    word_same (put_word at w bs) (word_bytes w) at 0 (λ k l. let e : 0 + k ≡ k = omega arith in subst (λ x. slice_index (put_word at w bs) (at + k) ≡ slice_index (word_bytes w) x) (sym e) (byte_written at w bs k l h))
+    word_same (put_word at w bs) (word_bytes w) at 0 (λ k l. let e : 0 + k ≡ k = omega arith in
+    subst (λ x. slice_index (put_word at w bs) (at + k) ≡ slice_index (word_bytes w) x) (sym e)
+    (byte_written at w bs k l h))
     ∙ word-bytes w
 
 pub half_written : (at w : ℕ) (bs : List ℕ) → at + 2 ≤ length bs → half_at (put_half at w bs) at ≡ w
@@ -91,14 +101,19 @@ beside_from_apart p q k l (inl a) = inl (omega arith)
 beside_from_apart p q k l (inr a) = inr (omega arith)
 
 -- each of the patches that are apart stands in the patched bytes
-pub patched_written : (ps : List Patch) (bs : List ℕ) → AreApart ps → All (IsInside (length bs)) ps → All (λ p. (k : ℕ) → k < 4 → slice_index (patched ps bs) (p.offset + k) ≡ slice_index (word_bytes p.word) k) ps
+pub patched_written : (ps : List Patch) (bs : List ℕ) → AreApart ps → All (IsInside (length bs)) ps
+    → All (λ p. (k : ℕ) → k < 4 → slice_index (patched ps bs) (p.offset + k) ≡ slice_index (word_bytes p.word) k) ps
 patched_written [] bs a w = λ k d l. absurd (omega arith)
 patched_written (p ∷ ps) bs a w =
     let more : List ℕ = put_word p.offset p.word bs in
     let long : length more ≡ length bs = length-put_word p.offset p.word bs in
-    let inside : All (IsInside (length more)) ps = subst (λ n. All (IsInside n) ps) (sym long) (all_tail (IsInside (length bs)) p ps w) in
-    All-cons (λ q. (k : ℕ) → k < 4 → slice_index (patched ps more) (q.offset + k) ≡ slice_index (word_bytes q.word) k) p ps
-    (λ k l. byte-patched ps more (p.offset + k) (All-weaker (IsApart p) (λ q. IsBeside q.offset 4 (p.offset + k)) (λ q. beside_from_apart p q k l) ps a.1.0) ∙ byte_written p.offset p.word bs k l (all_head (IsInside (length bs)) p ps w))
+    let inside : All (IsInside (length more)) ps = subst (λ n. All (IsInside n) ps) (sym long)
+    (all_tail (IsInside (length bs)) p ps w) in
+    All-cons (λ q. (k : ℕ) → k < 4 → slice_index (patched ps more) (q.offset + k) ≡ slice_index (word_bytes q.word) k) p
+    ps
+    (λ k l. byte-patched ps more (p.offset + k) (All-weaker (IsApart p) (λ q. IsBeside q.offset 4 (p.offset + k))
+    (λ q. beside_from_apart p q k l) ps a.1.0) ∙ byte_written p.offset p.word bs k l
+    (all_head (IsInside (length bs)) p ps w))
     (patched_written ps more a.1.1 inside)
 
 -- patches that are apart are behind the file header
@@ -112,24 +127,30 @@ unfolding front
 length-front old ps more = length-put_half 44 _ _ ∙ (length-put_word 28 _ _ ∙ length-patched ps old)
 
 -- a byte of the front beside the two fields
-pub byte-front : (old : List ℕ) (ps : List Patch) (more i : ℕ) → IsBeside 28 4 i → IsBeside 44 2 i → slice_index (front old ps more) i ≡ slice_index (patched ps old) i
+pub byte-front : (old : List ℕ) (ps : List Patch) (more i : ℕ) → IsBeside 28 4 i → IsBeside 44 2 i
+    → slice_index (front old ps more) i ≡ slice_index (patched ps old) i
 unfolding front
 byte-front old ps more i a b = byte-put_half 44 _ _ i b ∙ byte-put_word 28 _ (patched ps old) i a
 
-pub front_phoff : (old : List ℕ) (ps : List Patch) (more : ℕ) → 52 ≤ length old → word_at (front old ps more) 28 ≡ up16 (length old)
+pub front_phoff : (old : List ℕ) (ps : List Patch) (more : ℕ) → 52 ≤ length old
+    → word_at (front old ps more) 28 ≡ up16 (length old)
 unfolding front
 front_phoff old ps more h =
     let long : length (patched ps old) ≡ length old = length-patched ps old in
-    word_same (front old ps more) (put_word 28 (up16 (length old)) (patched ps old)) 28 28 (λ k l. byte-put_half 44 _ _ (28 + k) (inl (omega arith)))
+    word_same (front old ps more) (put_word 28 (up16 (length old)) (patched ps old)) 28 28
+    (λ k l. byte-put_half 44 _ _ (28 + k) (inl (omega arith)))
     ∙ word_written 28 _ (patched ps old) (omega arith)
 
-pub front_phnum : (old : List ℕ) (ps : List Patch) (more : ℕ) → 52 ≤ length old → half_at (front old ps more) 44 ≡ e_phnum old + more
+pub front_phnum : (old : List ℕ) (ps : List Patch) (more : ℕ) → 52 ≤ length old
+    → half_at (front old ps more) 44 ≡ e_phnum old + more
 unfolding front
 front_phnum old ps more h =
-    let long : length (put_word 28 (up16 (length old)) (patched ps old)) ≡ length old = length-put_word 28 _ (patched ps old) ∙ length-patched ps old in
+    let long : length (put_word 28 (up16 (length old)) (patched ps old)) ≡ length old =
+    length-put_word 28 _ (patched ps old) ∙ length-patched ps old in
     half_written 44 _ _ (omega arith)
 
-pub front_patched : (old : List ℕ) (ps : List Patch) (more : ℕ) → AreApart ps → All (IsInside (length old)) ps → All (λ p. (k : ℕ) → k < 4 → slice_index (front old ps more) (p.offset + k) ≡ slice_index (word_bytes p.word) k) ps
+pub front_patched : (old : List ℕ) (ps : List Patch) (more : ℕ) → AreApart ps → All (IsInside (length old)) ps
+    → All (λ p. (k : ℕ) → k < 4 → slice_index (front old ps more) (p.offset + k) ≡ slice_index (word_bytes p.word) k) ps
 front_patched old ps more a w = λ j d l k m.
     let far : 52 ≤ (get_or ps j d).offset = behind_header ps a j d l in
     byte-front old ps more _ (inr (omega arith)) (inr (omega arith)) ∙ patched_written ps old a w j d l k m

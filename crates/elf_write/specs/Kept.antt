@@ -16,11 +16,13 @@ use Rattle.elf_write.specs.Layout.{IsBeside, headers_added}
 pub record AllTables (P : ℕ → ℕ → Type 0) (file : List ℕ) : Type 0 where
   pub sections : P (e_shoff file) (40 * e_shnum file)
   pub symbols : (t : Section) → find is_symtab (sections_of file) ≡ Some t → P t.offset t.size
-  pub strings : (s : Section) → strings_of (sections_of file) (find is_symtab (sections_of file)) ≡ Some s → P s.offset s.size
+  pub strings : (s : Section) → strings_of (sections_of file) (find is_symtab (sections_of file)) ≡ Some s
+      → P s.offset s.size
 
 -- no patch lies over a table
 abbrev pub AreTablesUnpatched : List ℕ → List Patch → Type 0
-AreTablesUnpatched file patches = AllTables (λ at n. (k : ℕ) → k < n → All (λ p. IsBeside p.offset 4 (at + k)) patches) file
+AreTablesUnpatched file patches = AllTables (λ at n. (k : ℕ) → k < n → All (λ p. IsBeside p.offset 4 (at + k)) patches)
+    file
 
 -- no table lies over the fields of the file header that change, e_phoff and e_phnum
 abbrev pub AreFieldsAlone : List ℕ → Type 0
@@ -43,7 +45,8 @@ pub record DoHeadersPass (file : List ℕ) (segments : List NewSegment) : Type 0
 abbrev pub AreAbove : ℕ → List NewSegment → Type 0
 AreAbove low [] = Unit {0}
 AreAbove low (s ∷ ss) =
-    (low ≤ s.vaddr) × (length s.bytes ≤ s.mem_size) × (s.vaddr + s.mem_size ≤ 0x7ff00000) × AreAbove (s.vaddr + s.mem_size) ss
+    (low ≤ s.vaddr) × (length s.bytes ≤ s.mem_size) × (s.vaddr + s.mem_size ≤ 0x7ff00000)
+    × AreAbove (s.vaddr + s.mem_size) ss
 
 -- they stand above the old file's image, and are not too large with it; so the headers pass
 pub record AreAddedAbove (file : List ℕ) (segments : List NewSegment) : Type 0 where

@@ -1,6 +1,7 @@
 -- What a reader finds in the new file: the old program headers with those of the added segments
 -- behind them, the old bytes that are kept, the patched words, and the bytes of the added segments.
-use Rattle.std.specs.Prelude.{◌≡◌, ℕ, ◌+◌, ◌*◌, ◌<◌, ◌≤◌, ◌⊎◌, List, [], ◌∷◌, ◌++◌, drop, take, map, length, All, slice_index}
+use Rattle.std.specs.Prelude.{◌≡◌, ℕ, ◌+◌, ◌*◌, ◌<◌, ◌≤◌, ◌⊎◌, List, [], ◌∷◌, ◌++◌, drop, take, map, length, All}
+use Rattle.std.specs.Prelude.{slice_index}
 use Rattle.elf_spec.specs.declared.Patch.{Patch}
 use Rattle.elf_spec.specs.declared.NewSegment.{NewSegment}
 use Rattle.elf_spec.specs.declared.Segment.{Segment}
@@ -75,11 +76,15 @@ pub record NewLayout (file : List ℕ) (patches : List Patch) (segments : List N
   pub longer : length file ≤ length new
   -- the old bytes that are kept, one by one, in a part of the file, and as numbers
   pub kept : (i : ℕ) → IsKept (length file) patches i → byte_at new i ≡ byte_at file i
-  pub kept_parts : (i n : ℕ) → ((k : ℕ) → k < n → IsKept (length file) patches (i + k)) → take n (drop i new) ≡ take n (drop i file)
+  pub kept_parts : (i n : ℕ) → ((k : ℕ) → k < n → IsKept (length file) patches (i + k))
+      → take n (drop i new) ≡ take n (drop i file)
   pub kept_words : (i : ℕ) → ((k : ℕ) → k < 4 → IsKept (length file) patches (i + k)) → word_at new i ≡ word_at file i
-  pub kept_halves : (i : ℕ) → IsKept (length file) patches i → IsKept (length file) patches (i + 1) → half_at new i ≡ half_at file i
+  pub kept_halves : (i : ℕ) → IsKept (length file) patches i → IsKept (length file) patches (i + 1)
+      → half_at new i ≡ half_at file i
   -- the section headers, where their table is kept and no patch is in the file header
-  pub sections : All (λ p. 52 ≤ p.offset) patches → ((k : ℕ) → k < 40 * e_shnum file → IsKept (length file) patches (e_shoff file + k)) → sections_of new ≡ sections_of file
+  pub sections : All (λ p. 52 ≤ p.offset) patches → ((k : ℕ) → k < 40 * e_shnum file
+      → IsKept (length file) patches (e_shoff file + k)) → sections_of new ≡ sections_of file
   -- each patched word, byte for byte and as a number
-  pub patched_bytes : AreApart patches → All (λ p. (k : ℕ) → k < 4 → byte_at new (p.offset + k) ≡ slice_index (word_bytes p.word) k) patches
+  pub patched_bytes : AreApart patches → All (λ p. (k : ℕ) → k < 4
+      → byte_at new (p.offset + k) ≡ slice_index (word_bytes p.word) k) patches
   pub patched_words : AreApart patches → All (λ p. word_at new p.offset ≡ p.word) patches

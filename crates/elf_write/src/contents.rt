@@ -58,7 +58,8 @@ pub fn push_contents(
 /// Adds zero bytes up to the next multiple of a page.
 fn pad_to_page(out: &mut Vec<u8>) -> Result<(), AllocError>
     requires { length out.old.items ≤ 40000000 }
-    ensures is { OnOk result (out.new.items ≡ out.old.items ++ replicate (up4096 (length out.old.items) - length out.old.items) 0) }
+    ensures is { OnOk result (out.new.items ≡ out.old.items ++ replicate
+        (up4096 (length out.old.items) - length out.old.items) 0) }
     ensures long { OnOk result (length out.new.items ≡ up4096 (length out.old.items)) }
 {
     out.resize(next_page(out.len()), 0)?;

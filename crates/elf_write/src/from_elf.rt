@@ -36,7 +36,8 @@ pub fn with_segments(
     ensures fits_33_mib { IfOk result (λ new. length new.items ≤ 34603008) }
     ensures layout { IfOk result (λ new. NewLayout file.now patches.now segments.now new.items) }
     ensures headers { AreAddedAbove file.now segments.now → DoHeadersPass file.now segments.now }
-    ensures readable { IfOk result (λ new. AreTablesUnpatched file.now patches.now → AreFieldsAlone file.now → DoHeadersPass file.now segments.now → IsReadable new.items) }
+    ensures readable { IfOk result (λ new. AreTablesUnpatched file.now patches.now → AreFieldsAlone file.now
+        → DoHeadersPass file.now segments.now → IsReadable new.items) }
     ensures memory { IfOk result (λ new. NewMemory file.now patches.now segments.now new.items) }
 {
     let out = with_new_segments(alloc, file, patches, segments)?;

@@ -54,7 +54,8 @@ pub fn table_end(file: &[u8], more: usize) -> usize
 pub fn push_old_headers(out: &mut Vec<u8>, file: &[u8]) -> Result<(), AllocError>
     requires has_file_header { 52 ≤ length file.now }
     requires has_table { HasTable file.now }
-    ensures is { OnOk result (out.new.items ≡ out.old.items ++ take (32 * e_phnum file.now) (drop (e_phoff file.now) file.now)) }
+    ensures is { OnOk result (out.new.items ≡ out.old.items ++ take (32 * e_phnum file.now)
+        (drop (e_phoff file.now) file.now)) }
     ensures long { OnOk result (length out.new.items ≡ length out.old.items + 32 * e_phnum file.now) }
 {
     let count = header_count(file);

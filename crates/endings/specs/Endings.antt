@@ -1,7 +1,8 @@
 -- The status of an ending, and its line on note.
 use Rattle.std.specs.Prelude.{ℕ, List, [], ◌++◌, codes, decimal}
 use Rattle.endings.specs.declared.endings.Ending.{Ending}
-use Rattle.endings.specs.declared.endings.Ending.TheVariants.{Done, Usage, File, Plan, Profile, ReadFault, WriteFault, Memory, Exited, StillRunning, Fault, Illegal}
+use Rattle.endings.specs.declared.endings.Ending.TheVariants.{Done, Usage, File, Plan, Profile, ReadFault, WriteFault}
+use Rattle.endings.specs.declared.endings.Ending.TheVariants.{Memory, Exited, StillRunning, Fault, Illegal}
 use Rattle.machine_spec.specs.declared.FaultKind.{FaultKind}
 use Rattle.machine_spec.specs.declared.FaultKind.TheVariants.{F1, F2, F3, F4, F5, F6}
 use Rattle.text_fields.specs.Writing.{hex8}

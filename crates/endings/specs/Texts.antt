@@ -52,7 +52,8 @@ elf_text elf.Memory = codes "out of memory"
 abbrev pub reloc_text : RelocRefusal → List ℕ
 reloc_text reloc.NoRelocs = codes "no relocations"
 reloc_text (reloc.EntrySize i) = codes "section " ++ decimal i ++ codes " entry size"
-reloc_text (reloc.SymbolOut i entry) = codes "section " ++ decimal i ++ codes " entry " ++ decimal entry ++ codes " symbol out"
+reloc_text (reloc.SymbolOut i entry) = codes "section " ++ decimal i ++ codes " entry " ++ decimal entry
+    ++ codes " symbol out"
 reloc_text (reloc.Tls place) = codes "tls at " ++ hex8 place
 reloc_text (reloc.Compressed place) = codes "compressed at " ++ hex8 place
 reloc_text reloc.Memory = codes "out of memory"

@@ -89,7 +89,8 @@ fn reloc_line(why: RelocRefusal) -> Line
 
 /// The line of a segment of a kind that isn't taken.
 fn kind_line(index: u32, kind: u32) -> Line
-    ensures { result.bytes ≡ codes "halo: file: segment " ++ decimal index ++ codes " kind " ++ hex8 kind ++ codes "\n" }
+    ensures { result.bytes ≡ codes "halo: file: segment " ++ decimal index ++ codes " kind " ++ hex8 kind
+        ++ codes "\n" }
 {
     let mut line = Line::new();
     line.push_str("halo: file: segment ");

@@ -22,7 +22,8 @@ pub fn exit_line(status: u8, steps: u32) -> Line
 
 /// The line of a fault of the instruction at an address after so many steps.
 pub fn fault_line(kind: FaultKind, at: u32, steps: u32) -> Line
-    ensures { result.bytes ≡ codes "halo: fault " ++ kind_text kind ++ codes " at " ++ hex8 at ++ codes " after " ++ decimal steps ++ codes " steps\n" }
+    ensures { result.bytes ≡ codes "halo: fault " ++ kind_text kind ++ codes " at " ++ hex8 at ++ codes " after "
+        ++ decimal steps ++ codes " steps\n" }
 {
     stop_line(fault_front(kind), at, steps)
 }
@@ -44,7 +45,8 @@ fn fault_front(kind: FaultKind) -> &'static str
 /// The line of a run that stops for a cause at an address after so many steps.
 pub fn stop_line(cause: &str, at: u32, steps: u32) -> Line
     requires { length cause.now ≤ 20 }
-    ensures { result.bytes ≡ cause.now ++ codes " at " ++ hex8 at ++ codes " after " ++ decimal steps ++ codes " steps\n" }
+    ensures { result.bytes ≡ cause.now ++ codes " at " ++ hex8 at ++ codes " after " ++ decimal steps
+        ++ codes " steps\n" }
 {
     let mut line = Line::new();
     line.push_str(cause);

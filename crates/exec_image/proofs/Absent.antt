@@ -1,5 +1,6 @@
 -- Where there is no site, no heap function and no code word.
-use Rattle.std.proofs.Common.{◌≡◌, ◌↔◌, ◌+◌, ◌%◌, ◌-◌, ◌==◌, ◌&&◌, ℕ, Bool, true, false, cond, List, find, Option, Some, None, option_map, refl, arith}
+use Rattle.std.proofs.Common.{◌≡◌, ◌↔◌, ◌+◌, ◌%◌, ◌-◌, ◌==◌, ◌&&◌, ℕ, Bool, true, false, cond, List, find, Option, Some}
+use Rattle.std.proofs.Common.{None, option_map, refl, arith}
 use Rattle.std.specs.List.{All}
 use Rattle.std.proofs.lemmas.Bool.Decides.{nat_tests}
 use Rattle.elf_spec.specs.declared.HeapName.{HeapName}

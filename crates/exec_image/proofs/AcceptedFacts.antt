@@ -1,11 +1,14 @@
 -- What the checks keep of an accepted file.
-use Rattle.std.proofs.Common.{◌≡◌, ℕ, ◌+◌, ◌-◌, ◌%◌, ◌<◌, ◌≤◌, ◌==◌, ◌&&◌, not, Bool, true, false, List, [], ◌∷◌, get_or, length, nat_eq, nat_le, nat_lt, refl, sym, subst, arith, Option, Some, None, is_some, option_map, if◌then◌else◌}
+use Rattle.std.proofs.Common.{◌≡◌, ℕ, ◌+◌, ◌-◌, ◌%◌, ◌<◌, ◌≤◌, ◌==◌, ◌&&◌, not, Bool, true, false, List, [], ◌∷◌}
+use Rattle.std.proofs.Common.{get_or, length, nat_eq, nat_le, nat_lt, refl, sym, subst, arith, Option, Some, None}
+use Rattle.std.proofs.Common.{is_some, option_map, if◌then◌else◌}
 use Rattle.std.specs.List.{All, find, list_any}
 use Rattle.std.proofs.lemmas.Bool.Decides.{nat_tests}
 use Rattle.std.proofs.lemmas.List.Elements.{All-cons, All-nil}
 use Rattle.std.proofs.lemmas.List.Folds.{Any-from_list_any}
 use Rattle.elf_spec.specs.declared.HeapName.{HeapName}
-use Rattle.elf_spec.specs.declared.HeapName.TheVariants.{Malloc, Calloc, Realloc, Free, MallocR, CallocR, ReallocR, FreeR}
+use Rattle.elf_spec.specs.declared.HeapName.TheVariants.{Malloc, Calloc, Realloc, Free, MallocR, CallocR, ReallocR}
+use Rattle.elf_spec.specs.declared.HeapName.TheVariants.{FreeR}
 use Rattle.elf_spec.specs.declared.Section.{Section}
 use Rattle.elf_spec.specs.declared.Segment.{Segment}
 use Rattle.elf_spec.specs.Code.{code_place, code_word, holds_word, is_executable}
@@ -16,13 +19,15 @@ use Rattle.elf_spec.specs.Records.{e_entry, e_phnum, sections_of, segments_of}
 use Rattle.elf_read.specs.Checks.{is_shared}
 use Rattle.elf_read.specs.Readable.{IsInside, IsLoadedInside, ReadableFacts}
 use Rattle.elf_read.specs.Refusals.{first_below, memory_size, when}
-use Rattle.exec_image.specs.declared.refusals.FileRefusal.TheVariants.{AlreadyRewritten, EntryOut, HeapEntrySmall, ImageTooLarge, TpUsed}
+use Rattle.exec_image.specs.declared.refusals.FileRefusal.TheVariants.{AlreadyRewritten, EntryOut, HeapEntrySmall}
+use Rattle.exec_image.specs.declared.refusals.FileRefusal.TheVariants.{ImageTooLarge, TpUsed}
 use Rattle.exec_image.specs.declared.refusals.ImagePart.TheVariants.{Headers, Bytes}
 use Rattle.exec_image.specs.Accepted.{AcceptedFacts, HasTwoWords, IsAlone, IsCodeAt}
 use Rattle.exec_image.specs.Checks.{descriptions, has_mark, is_place_of, uses_tp_at}
 use Rattle.exec_image.specs.HeapChecks.{is_small, lacks_words}
 use Rattle.exec_image.specs.Images.{IsAccepted}
-use Rattle.exec_image.specs.Refusals.{already_rewritten, entry_out, exec_outside, heap_entry_small, image_too_large, tp_used, small_of}
+use Rattle.exec_image.specs.Refusals.{already_rewritten, entry_out, exec_outside, heap_entry_small, image_too_large}
+use Rattle.exec_image.specs.Refusals.{tp_used, small_of}
 use Rattle.elf_read.specs.Elf.{IsReadable}
 use Rattle.exec_image.proofs.CodePlaces.{IsPlaced, all_placed, all_words}
 use Rattle.exec_image.proofs.Finding.{NoneBelow, found_in, found_passes, found_some}

@@ -1,5 +1,7 @@
 -- Where a code word stands in the file: what is looked up is what the sections say.
-use Rattle.std.proofs.Common.{◌≡◌, ℕ, ◌+◌, ◌-◌, ◌%◌, ◌<◌, ◌≤◌, ◌==◌, ◌&&◌, ◌||◌, not, Bool, true, false, List, get_or, length, nat_eq, nat_le, nat_lt, refl, sym, ap, ◌∙◌, arith, Option, Some, None, is_some, option_map, rules}
+use Rattle.std.proofs.Common.{◌≡◌, ℕ, ◌+◌, ◌-◌, ◌%◌, ◌<◌, ◌≤◌, ◌==◌, ◌&&◌, ◌||◌, not, Bool, true, false, List, get_or}
+use Rattle.std.proofs.Common.{length, nat_eq, nat_le, nat_lt, refl, sym, ap, ◌∙◌, arith, Option, Some, None, is_some}
+use Rattle.std.proofs.Common.{option_map, rules}
 use Rattle.std.specs.Option.{IfSome}
 use Rattle.std.specs.List.{All, find, list_any, position}
 use Rattle.std.proofs.lemmas.Bool.Decides.{nat_tests}
@@ -19,7 +21,8 @@ use Rattle.exec_image.specs.Checks.{is_in_descriptions, is_not_words, is_place_o
 use Rattle.exec_image.specs.CodeParts.{IsCode, code_parts, holds_in_file, place_in}
 use Rattle.exec_image.specs.Parts.{is_meeting}
 use Rattle.exec_image.specs.Refusals.{exec_not_words, exec_outside, is_outside}
-use Rattle.exec_image.proofs.Finding.{any_of_kept, any_same, found_alike, found_in, found_none, found_passes, found_some, none_passes}
+use Rattle.exec_image.proofs.Finding.{any_of_kept, any_same, found_alike, found_in, found_none, found_passes}
+use Rattle.exec_image.proofs.Finding.{found_some, none_passes}
 use Rattle.exec_image.proofs.Meeting.{meets_same}
 
 -- what the passed checks say of each executable section

@@ -1,12 +1,15 @@
 -- Two heap functions of an accepted file share none of their eight bytes.
-use Rattle.std.proofs.Common.{◌≡◌, ◌≢◌, ℕ, zero, suc, ◌+◌, ◌<◌, ◌&&◌, ◌||◌, Bool, true, false, List, [], ◌∷◌, ◌++◌, append-nil, append_assoc, get_or, length, take, nat_lt, refl, sym, ap, ◌∙◌, subst, arith, Option, Some, None}
+use Rattle.std.proofs.Common.{◌≡◌, ◌≢◌, ℕ, zero, suc, ◌+◌, ◌<◌, ◌&&◌, ◌||◌, Bool, true, false, List, [], ◌∷◌, ◌++◌}
+use Rattle.std.proofs.Common.{append-nil, append_assoc, get_or, length, take, nat_lt, refl, sym, ap, ◌∙◌, subst, arith}
+use Rattle.std.proofs.Common.{Option, Some, None}
 use Rattle.std.specs.List.{All, list_any}
 use Rattle.std.specs.Prelude.{slice_get}
 use Rattle.std.proofs.lemmas.Bool.Decides.{nat_tests}
 use Rattle.std.proofs.lemmas.List.{get_or-take}
 use Rattle.std.proofs.lemmas.Option.{get_or_from_slice_get, slice_get_within}
 use Rattle.elf_spec.specs.declared.HeapName.{HeapName}
-use Rattle.elf_spec.specs.declared.HeapName.TheVariants.{Malloc, Calloc, Realloc, Free, MallocR, CallocR, ReallocR, FreeR}
+use Rattle.elf_spec.specs.declared.HeapName.TheVariants.{Malloc, Calloc, Realloc, Free, MallocR, CallocR, ReallocR}
+use Rattle.elf_spec.specs.declared.HeapName.TheVariants.{FreeR}
 use Rattle.elf_spec.specs.Heap.{heap_entry, heap_names}
 use Rattle.elf_read.specs.Checks.{is_shared}
 use Rattle.elf_read.specs.Refusals.{when}
@@ -46,19 +49,24 @@ beside_before : (file : List ℕ) (before : List HeapName) (name : HeapName) →
 unfolding is_twice
 beside_before file before name h =
     none_of_any (λ x. is_overlap (heap_entry file x) (heap_entry file name)) before
-    (both_false (has_two_values file name) (list_any (λ x. is_overlap (heap_entry file x) (heap_entry file name)) before) h).1
+    (both_false (has_two_values file name) (list_any (λ x. is_overlap (heap_entry file x) (heap_entry file name))
+    before) h).1
 
 -- where none of the names is there twice, each overlaps none before it
-beside_at : (file : List ℕ) (before names : List HeapName) (k : ℕ) (name : HeapName) → twice_from file before names ≡ None
+beside_at : (file : List ℕ) (before names : List HeapName) (k : ℕ) (name : HeapName)
+    → twice_from file before names ≡ None
     → slice_get names k ≡ Some name → IsBeside file (before ++ take k names) name
 beside_at file before [] k name h e = absurd (cc)
 beside_at file before (x ∷ names) zero name h e =
-    let (first, rest) = none_both (when (is_twice file before x) (HeapEntryTwice x)) (twice_from file (before ++ x ∷ []) names) h in
+    let (first, rest) = none_both (when (is_twice file before x) (HeapEntryTwice x))
+    (twice_from file (before ++ x ∷ []) names) h in
     let same : x ≡ name = cc in
-    let all : IsBeside file before x = beside_before file before x (not_when (is_twice file before x) (HeapEntryTwice x) first) in
+    let all : IsBeside file before x = beside_before file before x
+    (not_when (is_twice file before x) (HeapEntryTwice x) first) in
     subst (λ xs. IsBeside file xs name) (sym (append-nil before)) (subst (IsBeside file before) same all)
 beside_at file before (x ∷ names) (suc k) name h e =
-    let (first, rest) = none_both (when (is_twice file before x) (HeapEntryTwice x)) (twice_from file (before ++ x ∷ []) names) h in
+    let (first, rest) = none_both (when (is_twice file before x) (HeapEntryTwice x))
+    (twice_from file (before ++ x ∷ []) names) h in
     subst (λ xs. IsBeside file xs name) (append_assoc before (x ∷ []) (take k names))
     (beside_at file (before ++ x ∷ []) names k name rest e)
 
@@ -67,7 +75,8 @@ beside_earlier : (file : List ℕ) (n m : HeapName) → heap_entry_twice file �
     → is_overlap (heap_entry file n) (heap_entry file m) ≡ false
 unfolding heap_entry_twice
 beside_earlier file n m h low =
-    let all : IsBeside file (take (place_of m) heap_names) m = beside_at file [] heap_names (place_of m) m h (in_place m) in
+    let all : IsBeside file (take (place_of m) heap_names) m =
+    beside_at file [] heap_names (place_of m) m h (in_place m) in
     let below : place_of m < length heap_names = slice_get_within heap_names (place_of m) m (in_place m) in
     let is : get_or (take (place_of m) heap_names) (place_of n) n ≡ n =
     get_or-take (place_of m) heap_names (place_of n) n low
@@ -87,11 +96,14 @@ turned a b h = grind (arith, nat_tests)
 
 pub heap_apart : (file : List ℕ) → heap_entry_twice file ≡ None → (n m : HeapName) (a b : ℕ) → n ≢ m
     → heap_entry file n ≡ Some a → heap_entry file m ≡ Some b → is_shared a 8 b 8 ≡ false
-heap_apart file h n m a b other e f = by_order (nat_lt (place_of n) (place_of m)) (nat_lt (place_of m) (place_of n)) refl refl
+heap_apart file h n m a b other e f = by_order (nat_lt (place_of n) (place_of m)) (nat_lt (place_of m) (place_of n))
+    refl refl
   where
-    ordered : (n m : HeapName) (a b : ℕ) → heap_entry file n ≡ Some a → heap_entry file m ≡ Some b → place_of n < place_of m
+    ordered : (n m : HeapName) (a b : ℕ) → heap_entry file n ≡ Some a → heap_entry file m ≡ Some b
+        → place_of n < place_of m
         → is_shared a 8 b 8 ≡ false
-    ordered n m a b e f low = let q : is_overlap (heap_entry file n) (heap_entry file m) ≡ false = beside_earlier file n m h low in
+    ordered n m a b e f low = let q : is_overlap (heap_entry file n) (heap_entry file m) ≡ false =
+        beside_earlier file n m h low in
         rw (e, f) at q
 
     by_order : (s t : Bool) → nat_lt (place_of n) (place_of m) ≡ s → nat_lt (place_of m) (place_of n) ≡ t

@@ -1,5 +1,6 @@
 -- A code word is below the image's end.
-use Rattle.std.proofs.Common.{◌≡◌, ℕ, ◌+◌, ◌-◌, ◌<◌, ◌≤◌, ◌&&◌, Bool, true, false, List, [], ◌∷◌, length, max, nat_le, nat_lt, refl, sym, ◌∙◌, arith, Option, Some, None, is_some, option_map}
+use Rattle.std.proofs.Common.{◌≡◌, ℕ, ◌+◌, ◌-◌, ◌<◌, ◌≤◌, ◌&&◌, Bool, true, false, List, [], ◌∷◌, length, max, nat_le}
+use Rattle.std.proofs.Common.{nat_lt, refl, sym, ◌∙◌, arith, Option, Some, None, is_some, option_map}
 use Rattle.std.specs.List.{All, filter, find, fold}
 use Rattle.std.proofs.lemmas.Bool.Decides.{nat_tests}
 use Rattle.std.proofs.lemmas.List.Elements.{All-cons, All-nil}

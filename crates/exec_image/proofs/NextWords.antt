@@ -1,5 +1,7 @@
 -- The next code word from an address on, as it is looked up in the parts in order.
-use Rattle.std.proofs.Common.{◌≡◌, ◌≢◌, ℕ, ◌+◌, ◌%◌, ◌<◌, ◌≤◌, ◌==◌, ◌&&◌, Bool, true, false, not, List, [], ◌∷◌, get_or, length, max, nat_lt, nat_le, refl, sym, ◌∙◌, inl, inr, arith, Option, Some, None, is_some, option_map}
+use Rattle.std.proofs.Common.{◌≡◌, ◌≢◌, ℕ, ◌+◌, ◌%◌, ◌<◌, ◌≤◌, ◌==◌, ◌&&◌, Bool, true, false, not, List, [], ◌∷◌}
+use Rattle.std.proofs.Common.{get_or, length, max, nat_lt, nat_le, refl, sym, ◌∙◌, inl, inr, arith, Option, Some, None}
+use Rattle.std.proofs.Common.{is_some, option_map}
 use Rattle.std.specs.List.{All, list_any}
 use Rattle.std.proofs.lemmas.Bool.{cases_lt}
 use Rattle.std.proofs.lemmas.Bool.Decides.{nat_tests}

@@ -1,5 +1,6 @@
 -- What an accepted file has passed.
-use Rattle.std.proofs.Common.{◌≡◌, ℕ, ◌+◌, ◌≤◌, ◌||◌, Bool, true, false, List, [], ◌∷◌, max, nat_lt, refl, arith, Option, Some, None, option_map}
+use Rattle.std.proofs.Common.{◌≡◌, ℕ, ◌+◌, ◌≤◌, ◌||◌, Bool, true, false, List, [], ◌∷◌, max, nat_lt, refl, arith}
+use Rattle.std.proofs.Common.{Option, Some, None, option_map}
 use Rattle.std.specs.List.{filter, fold, list_any}
 use Rattle.std.proofs.lemmas.Bool.Decides.{nat_tests}
 use Rattle.elf_spec.specs.declared.Segment.{Segment}
@@ -13,7 +14,8 @@ use Rattle.exec_image.specs.declared.refusals.FileRefusal.TheVariants.{Elf, Relo
 use Rattle.exec_image.specs.declared.refusals.ImagePart.TheVariants.{Headers, Bytes, End}
 use Rattle.exec_image.specs.Checks.{ends_above}
 use Rattle.exec_image.specs.Images.{IsAccepted}
-use Rattle.exec_image.specs.Refusals.{already_rewritten, entry_out, exec_not_words, exec_outside, heap_entry_small, heap_entry_twice, image_refusal, image_too_large, rest_refusal, tp_used}
+use Rattle.exec_image.specs.Refusals.{already_rewritten, entry_out, exec_not_words, exec_outside, heap_entry_small}
+use Rattle.exec_image.specs.Refusals.{heap_entry_twice, image_refusal, image_too_large, rest_refusal, tp_used}
 
 -- neither of two checks refuses
 pub none_both : {A : Type 0} (p q : Option A) → (p or_else q) ≡ None → (p ≡ None) × (q ≡ None)

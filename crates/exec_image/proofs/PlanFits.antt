@@ -1,5 +1,8 @@
 -- A plan without a fault fits, and one that fits has no fault.
-use Rattle.std.proofs.Common.{◌≡◌, ◌≢◌, ℕ, zero, suc, ◌+◌, ◌/◌, ◌^◌, ◌<◌, ◌≤◌, ◌==◌, ◌&&◌, ◌||◌, not, Bool, true, false, List, [], ◌∷◌, ◌++◌, get_or, length, map, nat_le, nat_lt, eqb, bit_and, refl, sym, ap, ◌∙◌, inl, inr, arith, Option, Some, None, is_some, option_map, Result, Ok, Err, OnOk, OnErr, IsBitSet}
+use Rattle.std.proofs.Common.{◌≡◌, ◌≢◌, ℕ, zero, suc, ◌+◌, ◌/◌, ◌^◌, ◌<◌, ◌≤◌, ◌==◌, ◌&&◌, ◌||◌, not, Bool, true, false}
+use Rattle.std.proofs.Common.{List, [], ◌∷◌, ◌++◌, get_or, length, map, nat_le, nat_lt, eqb, bit_and, refl, sym, ap}
+use Rattle.std.proofs.Common.{◌∙◌, inl, inr, arith, Option, Some, None, is_some, option_map, Result, Ok, Err, OnOk}
+use Rattle.std.proofs.Common.{OnErr, IsBitSet}
 use Rattle.std.specs.List.{All, AllPairs, Any, list_any, slice_get}
 use Rattle.std.proofs.Math.Nat.{div-eq_of_lt}
 use Rattle.std.proofs.Math.Pow.{pow_mono}
@@ -23,8 +26,11 @@ use Rattle.site_spec.specs.Plans.{Fits, IsInReach}
 use Rattle.site_spec.specs.Sites.{site_at}
 use Rattle.elf_read.specs.Refusals.{◌or_else◌, Says, when}
 use Rattle.exec_image.specs.declared.plan_fault.PlanFault.{PlanFault}
-use Rattle.exec_image.specs.declared.plan_fault.PlanFault.TheVariants.{PlanSite, PlanBit, PlanRow, AreaTooLarge, SiteOutOfReach}
-use Rattle.exec_image.specs.PlanFaults.{area_too_large, bad_row, bad_row_from, is_far, is_strange_bit, no_bit, no_bit_from, no_site, no_site_from, out_of_reach, out_of_reach_from, plan_fault, strange_mask, strange_masks}
+use Rattle.exec_image.specs.declared.plan_fault.PlanFault.TheVariants.{PlanSite, PlanBit, PlanRow, AreaTooLarge}
+use Rattle.exec_image.specs.declared.plan_fault.PlanFault.TheVariants.{SiteOutOfReach}
+use Rattle.exec_image.specs.PlanFaults.{area_too_large, bad_row, bad_row_from, is_far, is_strange_bit, no_bit}
+use Rattle.exec_image.specs.PlanFaults.{no_bit_from, no_site, no_site_from, out_of_reach, out_of_reach_from, plan_fault}
+use Rattle.exec_image.specs.PlanFaults.{strange_mask, strange_masks}
 use Rattle.exec_image.proofs.Finding.{NoneBelow, pairs_head, pairs_tail}
 use Rattle.exec_image.proofs.Passed.{both_false, none_both, not_when}
 use Rattle.exec_image.proofs.SiteShape.{shape}

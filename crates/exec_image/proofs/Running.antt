@@ -1,5 +1,6 @@
 -- Parts in order of their starts, each with the greatest end so far: they stand for the parts.
-use Rattle.std.proofs.Common.{◌≡◌, ℕ, zero, suc, ◌<◌, ◌≤◌, ◌⊎◌, ◌&&◌, true, List, [], ◌∷◌, get_or, length, max, nat_le, refl, ap, ◌∙◌, inl, inr, arith, Vec, Global, Result, Ok, Err, IfOk}
+use Rattle.std.proofs.Common.{◌≡◌, ℕ, zero, suc, ◌<◌, ◌≤◌, ◌⊎◌, ◌&&◌, true, List, [], ◌∷◌, get_or, length, max, nat_le}
+use Rattle.std.proofs.Common.{refl, ap, ◌∙◌, inl, inr, arith, Vec, Global, Result, Ok, Err, IfOk}
 use Rattle.std.specs.List.{list_any}
 use Rattle.std.specs.List.Sorted.{IsNonDecreasingBy, IsPermutation}
 use Rattle.std.proofs.lemmas.Bool.{cases_lt}

@@ -1,5 +1,6 @@
 -- Where no code word names x4.
-use Rattle.std.proofs.Common.{◌≡◌, ◌≢◌, ℕ, ◌+◌, ◌%◌, ◌<◌, ◌≤◌, true, false, List, refl, sym, ◌∙◌, inl, inr, arith, subst, None, is_some}
+use Rattle.std.proofs.Common.{◌≡◌, ◌≢◌, ℕ, ◌+◌, ◌%◌, ◌<◌, ◌≤◌, true, false, List, refl, sym, ◌∙◌, inl, inr, arith}
+use Rattle.std.proofs.Common.{subst, None, is_some}
 use Rattle.std.proofs.lemmas.Bool.{cases_lt}
 use Rattle.elf_spec.specs.Code.{code_place, code_word}
 use Rattle.elf_spec.specs.Fields.{word_at}

@@ -1,6 +1,7 @@
 -- What an executable's code and segments are refused for, one test a check (gABI, "Section Header",
 -- "Program Loading").
-use Rattle.std.specs.Prelude.{ℕ, ◌+◌, ◌*◌, ◌%◌, ◌==◌, Bool, false, not, ◌&&◌, ◌||◌, List, [], ◌∷◌, ◌++◌, map, filter, find, take, drop, Option, Some, None, nat_le, nat_lt, bytes_eq}
+use Rattle.std.specs.Prelude.{ℕ, ◌+◌, ◌*◌, ◌%◌, ◌==◌, Bool, false, not, ◌&&◌, ◌||◌, List, [], ◌∷◌, ◌++◌, map, filter}
+use Rattle.std.specs.Prelude.{find, take, drop, Option, Some, None, nat_le, nat_lt, bytes_eq}
 use Rattle.std.specs.List.{list_any}
 use Rattle.rv_isa.specs.declared.Instr.{Instr}
 use Rattle.rv_isa.specs.Names.{names_register}

@@ -1,6 +1,7 @@
 -- What the heap functions of an executable are refused for (gABI, "Symbol Table"). A heap function's
 -- first eight bytes are its two words.
-use Rattle.std.specs.Prelude.{ℕ, ◌+◌, ◌==◌, Bool, false, not, ◌&&◌, ◌||◌, List, filter, Option, Some, None, is_some, nat_le}
+use Rattle.std.specs.Prelude.{ℕ, ◌+◌, ◌==◌, Bool, false, not, ◌&&◌, ◌||◌, List, filter, Option, Some, None, is_some}
+use Rattle.std.specs.Prelude.{nat_le}
 use Rattle.std.specs.List.{list_any}
 use Rattle.elf_spec.specs.declared.HeapName.{HeapName}
 use Rattle.elf_spec.specs.declared.Symbol.{Symbol}

@@ -1,6 +1,7 @@
 -- Why a plan doesn't fit an executable: the first check that it fails, with its item; the first line
 -- or row, and of a row's mask the lowest bit.
-use Rattle.std.specs.Prelude.{ℕ, ◌+◌, ◌^◌, ◌==◌, Bool, false, not, ◌&&◌, ◌||◌, List, [], ◌∷◌, ◌++◌, Option, Some, None, is_some, option_map, nat_le, nat_lt, bit_and}
+use Rattle.std.specs.Prelude.{ℕ, ◌+◌, ◌^◌, ◌==◌, Bool, false, not, ◌&&◌, ◌||◌, List, [], ◌∷◌, ◌++◌, Option, Some, None}
+use Rattle.std.specs.Prelude.{is_some, option_map, nat_le, nat_lt, bit_and}
 use Rattle.std.specs.List.{list_any}
 use Rattle.elf_read.specs.Refusals.{first_below}
 use Rattle.plan_core.specs.declared.types.Area.{Area}
@@ -13,7 +14,8 @@ use Rattle.site_spec.specs.Places.{reaches, stub_at, text_at}
 use Rattle.site_spec.specs.Sites.{site_at}
 use Rattle.elf_read.specs.Refusals.{◌or_else◌, when}
 use Rattle.exec_image.specs.declared.plan_fault.PlanFault.{PlanFault}
-use Rattle.exec_image.specs.declared.plan_fault.PlanFault.TheVariants.{PlanSite, PlanBit, PlanRow, AreaTooLarge, SiteOutOfReach}
+use Rattle.exec_image.specs.declared.plan_fault.PlanFault.TheVariants.{PlanSite, PlanBit, PlanRow, AreaTooLarge}
+use Rattle.exec_image.specs.declared.plan_fault.PlanFault.TheVariants.{SiteOutOfReach}
 
 -- the first line, behind those before, that names no site or the site of an earlier line
 abbrev pub no_site_from : List ℕ → List PlanLine → List PlanLine → Option PlanFault

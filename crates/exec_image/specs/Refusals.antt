@@ -1,6 +1,7 @@
 -- Why a file isn't accepted as an executable: the first check that it fails, with its item, and the
 -- lowest index or address.
-use Rattle.std.specs.Prelude.{◌≡◌, ℕ, ◌⊎◌, Bool, not, ◌&&◌, ◌||◌, List, [], ◌∷◌, ◌++◌, Option, Some, None, is_some, option_map, position, nat_lt, Result, Ok, Err}
+use Rattle.std.specs.Prelude.{◌≡◌, ℕ, ◌⊎◌, Bool, not, ◌&&◌, ◌||◌, List, [], ◌∷◌, ◌++◌, Option, Some, None, is_some}
+use Rattle.std.specs.Prelude.{option_map, position, nat_lt, Result, Ok, Err}
 use Rattle.std.specs.List.{list_any}
 use Rattle.elf_spec.specs.declared.HeapName.{HeapName}
 use Rattle.elf_spec.specs.declared.Section.{Section}
@@ -12,7 +13,9 @@ use Rattle.elf_read.specs.Refusals.{first_below, memory_size, refusal}
 use Rattle.elf_read.specs.Refusals.{◌or_else◌, when}
 use Rattle.reloc_table.specs.Refusals.{reloc_refusal}
 use Rattle.exec_image.specs.declared.refusals.FileRefusal.{FileRefusal}
-use Rattle.exec_image.specs.declared.refusals.FileRefusal.TheVariants.{Memory, Elf, Relocs, ExecNotWords, ExecOutside, EntryOut, HeapEntryTwice, HeapEntrySmall, AlreadyRewritten, ImageTooLarge, TpUsed}
+use Rattle.exec_image.specs.declared.refusals.FileRefusal.TheVariants.{Memory, Elf, Relocs, ExecNotWords, ExecOutside}
+use Rattle.exec_image.specs.declared.refusals.FileRefusal.TheVariants.{EntryOut, HeapEntryTwice, HeapEntrySmall}
+use Rattle.exec_image.specs.declared.refusals.FileRefusal.TheVariants.{AlreadyRewritten, ImageTooLarge, TpUsed}
 use Rattle.exec_image.specs.declared.refusals.ImagePart.TheVariants.{Headers, Bytes, End}
 use Rattle.exec_image.specs.Checks.{ends_above, has_mark, is_in_descriptions, is_not_words, is_place_of, uses_tp_at}
 use Rattle.exec_image.specs.HeapChecks.{is_small, is_twice}

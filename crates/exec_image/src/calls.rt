@@ -45,7 +45,8 @@ fn places_in_order(
     high: u8,
 ) -> Result<Vec<u32>, AllocError>
     ensures rise { IfOk result (λ list. IsNonDecreasing list.items) }
-    ensures all { IfOk result (λ list. (a : ℕ) → list_any (λ p. p == a) list.items ≡ list_any (λ r. is_kind low high r && (r.place == a)) relocs.now) }
+    ensures all { IfOk result (λ list. (a : ℕ) → list_any (λ p. p == a) list.items
+        ≡ list_any (λ r. is_kind low high r && (r.place == a)) relocs.now) }
 {
     let mut list = places(alloc, relocs, low, high)?;
     list.sort_unstable();

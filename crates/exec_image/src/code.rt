@@ -88,7 +88,8 @@ pub fn code_word(file: &[u8], segments: &[Segment], code: &[Part], addr: u32) ->
 /// The address of the first code word from an address on; `None` where there is none.
 pub fn next_code_word(file: &[u8], segments: &[Segment], code: &[Part], from: u32) -> Option<u32>
     requires { IsCode file.now segments.now code.now }
-    ensures found { IfSome result (λ a. (from ≤ a) × (a + 4 ≤ image_end (segments_of file.now)) × IsSome (code_word file.now a)) }
+    ensures found { IfSome result (λ a. (from ≤ a) × (a + 4 ≤ image_end (segments_of file.now))
+        × IsSome (code_word file.now a)) }
     ensures low { IfSome result (λ a. a + 4 ≤ 0x7ff00000) }
     ensures first { IfSome result (λ a. (b : ℕ) → from ≤ b → b < a → code_word file.now b ≡ None) }
     ensures none { IfNone result ((b : ℕ) → from ≤ b → code_word file.now b ≡ None) }

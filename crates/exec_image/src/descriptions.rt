@@ -41,7 +41,8 @@ fn push_part(list: &mut Vec<Part>, offset: u32, size: u64) -> Result<(), AllocEr
 /// Adds the part of a section, where there is one.
 #[tactic(auto, unfolding(crate::specs::Parts::parts_of))]
 fn push_section(list: &mut Vec<Part>, section: Option<Section>) -> Result<(), AllocError>
-    ensures { OnOk result (list.new.items ≡ list.old.items ++ parts_of (map (λ s. (s.offset, s.size)) (sections_in section))) }
+    ensures { OnOk result (list.new.items ≡ list.old.items ++ parts_of
+        (map (λ s. (s.offset, s.size)) (sections_in section))) }
 {
     match section {
         Some(s) => push_part(list, s.offset, s.size as u64),
@@ -76,7 +77,8 @@ fn push_kept(
     table: Option<usize>,
 ) -> Result<(), AllocError>
     requires table { table ≡ symtab_index sections.now }
-    ensures { OnOk result (list.new.items ≡ list.old.items ++ parts_of (map (λ s. (s.offset, s.size)) (filter (is_kept_rela sections.now) sections.now))) }
+    ensures { OnOk result (list.new.items ≡ list.old.items ++ parts_of
+        (map (λ s. (s.offset, s.size)) (filter (is_kept_rela sections.now) sections.now))) }
 {
     for s in sections {
         if is_kept(sections, table, s) {

@@ -225,7 +225,8 @@ fn is_small_size(size: u32) -> bool
 
 /// Whether a symbol of the heap function has a size of less than two words.
 fn has_small_size(file: &[u8], symbols: &[Symbol], name: HeapName) -> bool
-    ensures { result ≡ list_any (λ s. is_heap_symbol file.now name s && (nat_le 1 s.size && nat_le s.size 7)) symbols.now }
+    ensures { result ≡ list_any (λ s. is_heap_symbol file.now name s && (nat_le 1 s.size && nat_le s.size 7))
+        symbols.now }
 {
     symbols
         .iter()

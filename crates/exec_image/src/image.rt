@@ -1,6 +1,7 @@
 // An accepted executable.
 
-ghost use Rattle.std.specs.Prelude.{◌≡◌, ℕ, Bool, ◌+◌, ◌%◌, ◌<◌, ◌≤◌, ◌↔◌, ◌&&◌, true, false, None, Some, length, slice_get, All, IfNone, IfOk, IfSome, IsSome};
+ghost use Rattle.std.specs.Prelude.{◌≡◌, ℕ, Bool, ◌+◌, ◌%◌, ◌<◌, ◌≤◌, ◌↔◌, ◌&&◌, true, false, None, Some, length};
+ghost use Rattle.std.specs.Prelude.{slice_get, All, IfNone, IfOk, IfSome, IsSome};
 ghost use Rattle.std.specs.List.{list_any};
 ghost use Rattle.elf_spec.specs.declared.Reloc.{Reloc};
 ghost use Rattle.elf_spec.specs.Code.{code_place, code_word, holds_word, is_executable};
@@ -188,7 +189,8 @@ impl Image {
     /// The address of the first code word from an address on; `None` where there is none. The time is
     /// logarithmic in the number of executable sections.
     pub fn next_code_word(&self, from: u32) -> Option<u32>
-        ensures found { IfSome result (λ a. (from ≤ a) × (a + 4 ≤ image_end (segments_of self.now)) × IsSome (code_word self.now a)) }
+        ensures found { IfSome result (λ a. (from ≤ a) × (a + 4 ≤ image_end (segments_of self.now))
+            × IsSome (code_word self.now a)) }
         ensures first { IfSome result (λ a. (b : ℕ) → from ≤ b → b < a → code_word self.now b ≡ None) }
         ensures none { IfNone result ((b : ℕ) → from ≤ b → code_word self.now b ≡ None) }
     {

@@ -10,7 +10,8 @@ use elf_read::{readable_files_keep_their_facts, the_first_number_that_passes_is_
 /// No two sites of a file share a return address: so the address to which a call returns tells which
 /// site it came from.
 pub fn no_two_sites_share_a_return_address()
-    ensures { (file : List ℕ) (a b : ℕ) (s t : Site) → site_at file a ≡ Some s → site_at file b ≡ Some t → s.back ≡ t.back → s ≡ t }
+    ensures { (file : List ℕ) (a b : ℕ) (s t : Site) → site_at file a ≡ Some s → site_at file b ≡ Some t
+        → s.back ≡ t.back → s ≡ t }
 {}
 
 /// What the checks keep of every accepted file: where its code words stand, that they describe nothing of

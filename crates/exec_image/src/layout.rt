@@ -1,6 +1,7 @@
 // The checks of the executable sections and of the entry (gABI, "Section Header", "Program Loading").
 
-ghost use Rattle.std.specs.Prelude.{◌≡◌, ◌+◌, ◌*◌, ◌<◌, ◌≤◌, ◌^◌, ◌||◌, ◌&&◌, not, All, None, map, length, position, IfOk, IfSome};
+ghost use Rattle.std.specs.Prelude.{◌≡◌, ◌+◌, ◌*◌, ◌<◌, ◌≤◌, ◌^◌, ◌||◌, ◌&&◌, not, All, None, map, length, position};
+ghost use Rattle.std.specs.Prelude.{IfOk, IfSome};
 ghost use Rattle.std.specs.List.{list_any};
 ghost use Rattle.elf_spec.specs.Code.{is_executable};
 ghost use Rattle.elf_spec.specs.Records.{e_entry, sections_of, segments_of};

@@ -6,7 +6,8 @@ ghost use Rattle.plan_core.specs.Plan.{granules};
 ghost use Rattle.site_spec.specs.Places.{text_at};
 ghost use Rattle.elf_read.specs.Refusals.{Says};
 ghost use Rattle.site_spec.specs.Plans.{Fits};
-ghost use Rattle.exec_image.specs.PlanFaults.{area_too_large, bad_row, is_far, is_strange_bit, no_bit, no_site, out_of_reach, plan_fault, strange_mask, strange_masks};
+ghost use Rattle.exec_image.specs.PlanFaults.{area_too_large, bad_row, is_far, is_strange_bit, no_bit, no_site};
+ghost use Rattle.exec_image.specs.PlanFaults.{out_of_reach, plan_fault, strange_mask, strange_masks};
 ghost use Rattle.exec_image.specs.Images.{AreSites};
 
 use crate::image::Image;
@@ -118,7 +119,8 @@ fn check_rows(rows: &[Row]) -> Result<(), PlanFault>
 
 /// Whether an area has too many chunks or granules, or too large ones.
 fn is_too_large(area: &Area) -> bool
-    ensures { result ≡ (nat_lt 20 area.now.log_chunk || (nat_lt 256 area.now.chunks || nat_lt 1048576 (granules area.now))) }
+    ensures { result ≡ (nat_lt 20 area.now.log_chunk || (nat_lt 256 area.now.chunks || nat_lt 1048576
+        (granules area.now))) }
 {
     if area.log_chunk > MOST_LOG || area.chunks > MOST_CHUNKS {
         return true;

@@ -99,7 +99,8 @@ fn jal_site(file: &[u8], calls: &Calls, text: u32, addr: u32, imm: u32) -> Optio
 fn pair_site(file: &[u8], calls: &Calls, addr: u32, distance: u32) -> Option<Site>
     requires calls { AreCalls (relocs_of file.now) calls.now }
     requires low { addr + 8 ≤ 0x7ff00000 }
-    ensures exact { (imm low : ℕ) → distance ≡ plus imm low → result ≡ call_at file.now addr (Some (Auipc 1 imm)) (Some (Jalr 1 1 low)) }
+    ensures exact { (imm low : ℕ) → distance ≡ plus imm low → result
+        ≡ call_at file.now addr (Some (Auipc 1 imm)) (Some (Jalr 1 1 low)) }
     ensures addr { IfSome result (λ s. s.addr ≡ addr) }
 {
     if is_among(calls.pairs.as_slice(), addr) {

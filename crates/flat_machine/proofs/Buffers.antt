@@ -1,5 +1,6 @@
 -- Parts of a buffer in memory.
-use Rattle.std.proofs.Common.{◌≡◌, ℕ, zero, suc, ◌+◌, ◌<◌, ◌≤◌, ◌↔◌, Bool, map, List, [], ◌∷◌, ◌++◌, true, length, take, drop, refl, ap, sym, ◌∙◌, arith}
+use Rattle.std.proofs.Common.{◌≡◌, ℕ, zero, suc, ◌+◌, ◌<◌, ◌≤◌, ◌↔◌, Bool, map, List, [], ◌∷◌, ◌++◌, true, length, take}
+use Rattle.std.proofs.Common.{drop, refl, ap, sym, ◌∙◌, arith}
 use Rattle.std.specs.Prelude.{Option, Some, None, is_some, option_map, option_and_then, unwrap_or, slice_index}
 use Rattle.machine_spec.specs.Memory.{Range, all_from, shape_of, range_at, byte_of}
 use Rattle.flat_spec.specs.Stores.{allows_store, bytes_from, can_store, put_byte, put_bytes}
@@ -71,13 +72,15 @@ abbrev pub SameStores : Type 0
 SameStores = (m n : List Range) (a size : ℕ) → map shape_of m ≡ map shape_of n → can_store m a size ≡ can_store n a size
 
 -- a part of a buffer that can be stored to
-pub storable_part : PassTogether → (m : List Range) (a i k n : ℕ) → can_store m a n ≡ true → i + k ≤ n → can_store m (a + i) k ≡ true
+pub storable_part : PassTogether → (m : List Range) (a i k n : ℕ) → can_store m a n ≡ true → i + k ≤ n
+    → can_store m (a + i) k ≡ true
 storable_part together m a i k n h le =
     (together (λ k. allows_store (range_at m k)) (a + i) k).1
     (λ j low high. (together (λ k. allows_store (range_at m k)) a n).0 h j (omega arith) (omega arith))
 
 -- what can be stored to stays so
-pub storable_after : KeepRanges → SameStores → (m : List Range) (a n b : ℕ) (bs : List ℕ) → can_store m a n ≡ true → can_store (put_bytes m b bs) a n ≡ true
+pub storable_after : KeepRanges → SameStores → (m : List Range) (a n b : ℕ) (bs : List ℕ) → can_store m a n ≡ true
+    → can_store (put_bytes m b bs) a n ≡ true
 storable_after keep same m a n b bs h = same (put_bytes m b bs) m a n (keep m b bs) ∙ h
 
 -- two pieces, one behind the other
@@ -114,7 +117,8 @@ pub written_part : (p : Pause) (m : Machine) (s : FlatSeen) (from n : ℕ) → s
     → from + n ≤ length s.written → bytes_from m.memory (register m 11 + from) n ≡ Some (take n (drop from s.written))
 written_part p m s from n e paused le =
     let same : written_of p m ≡ s.written = ap (λ s. s.written) e in
-    let there : bytes_from m.memory (register m 11) (length s.written) ≡ Some s.written = rw same at (written_there p m paused) in
+    let there : bytes_from m.memory (register m 11) (length s.written) ≡ Some s.written =
+    rw same at (written_there p m paused) in
     read_part m.memory (register m 11) from n (length s.written) s.written there le
 
 pub some_is : {A : Type 0} {x y : A} → Some x ≡ Some y → x ≡ y

@@ -20,23 +20,27 @@ use Rattle.flat_machine.proofs.Buffers.{put_append}
 use Rattle.flat_machine.proofs.Waiting.{at_read, runs_at_read, wait_of}
 use Rattle.flat_machine.proofs.Stepping.{step_wrote}
 
-turn_by_rules : (input : List ℕ) (m : Machine) (new : FlatSeen) → IsTurn input m new → IsTurnByRules flat_rules input m new
+turn_by_rules : (input : List ℕ) (m : Machine) (new : FlatSeen) → IsTurn input m new
+    → IsTurnByRules flat_rules input m new
 turn_by_rules input m new h = (h.0, ap turned h.1)
 
 -- a step by its answer
-pub steps_by_rules : (s : Stepped) (input : List ℕ) (m : Machine) (new : FlatSeen) → s ≡ answer_to (asks m) new.machine.ending
+pub steps_by_rules : (s : Stepped) (input : List ℕ) (m : Machine) (new : FlatSeen)
+    → s ≡ answer_to (asks m) new.machine.ending
     → StepsTo s input m new → StepsAsRules flat_rules s input m new
 steps_by_rules Went input m new is h = (h.0, turn_by_rules input m new h.1)
 steps_by_rules (Wrote len) input m new is h = (step_wrote m new.machine len is, h.0, turn_by_rules input m new h.1)
 steps_by_rules (WantsInput len) input m new is h =
-    let same : new ≡ fed_by flat_rules len m [] = h.2 ∙ ap (λ k. record (fed_with m []) { waits = Some (wait_of k 0) }) h.1 in
+    let same : new ≡ fed_by flat_rules len m [] = h.2 ∙ ap (λ k. record (fed_with m []) { waits = Some (wait_of k 0) })
+    h.1 in
     (h.0, same, ap (λ s. s.machine.ending) h.2 ∙ runs_at_read m len h.0)
 steps_by_rules (Exited status) input m new is h = (h.0, turn_by_rules input m new h.1)
 steps_by_rules (Illegal at) input m new is h = (h.0, turn_by_rules input m new h.1)
 steps_by_rules (Fault kind at) input m new is h = (h.0, turn_by_rules input m new h.1)
 
 -- pieces add up
-pub feeds_on : (old new : FlatSeen) (piece : List ℕ) (m : Machine) (len : ℕ) (bytes : List ℕ) → FedMore old piece new → old ≡ fed_by flat_rules len m bytes
+pub feeds_on : (old new : FlatSeen) (piece : List ℕ) (m : Machine) (len : ℕ) (bytes : List ℕ) → FedMore old piece new
+    → old ≡ fed_by flat_rules len m bytes
     → new ≡ fed_by flat_rules len m (bytes ++ piece)
 feeds_on old new piece m len bytes more is =
     let e = rw is at more in
@@ -52,14 +56,16 @@ waits_more : (o : Option Wait) (old new : FlatSeen) (piece : List ℕ) → Match
 waits_more None old new piece h = absurd h
 waits_more (Some wait) old new piece h = (ap (λ s. s.waits) h, ap (λ s. s.machine.ending) h)
 
-pub waits_on : (old new : FlatSeen) (piece : List ℕ) → FedMore old piece new → WaitsOn old.waits (length piece) new.waits
+pub waits_on : (old new : FlatSeen) (piece : List ℕ) → FedMore old piece new
+    → WaitsOn old.waits (length piece) new.waits
 waits_on old new piece h = (waits_more old.waits old new piece h).0
 
 pub runs_on : (old new : FlatSeen) (piece : List ℕ) → FedMore old piece new → new.machine.ending ≡ old.machine.ending
 runs_on old new piece h = (waits_more old.waits old new piece h).1
 
 -- a completed machine doesn't wait
-completed : (o : Option Wait) (old new : FlatSeen) → MatchOption o ⊥ (λ wait. new ≡ between (answers wait.fed old.machine) [])
+completed : (o : Option Wait) (old new : FlatSeen) → MatchOption o ⊥
+    (λ wait. new ≡ between (answers wait.fed old.machine) [])
     → new.waits ≡ None
 completed None old new h = absurd h
 completed (Some wait) old new h = ap (λ s. s.waits) h
@@ -69,13 +75,15 @@ completed_goes old new h = completed old.waits old new h
 
 -- a read that was fed all is a turn
 pub ends_read : (old new : FlatSeen)
-    → ((m : Machine) (bytes rest : List ℕ) → IsAtRead m → old ≡ fed_with m bytes → IsWholeRead (register m 12) bytes rest
+    → ((m : Machine) (bytes rest : List ℕ) → IsAtRead m → old ≡ fed_with m bytes
+    → IsWholeRead (register m 12) bytes rest
     → turn (bytes ++ rest) m ≡ record { next = new.machine; written = []; left = rest })
     → EndsRead flat_rules old new
 ends_read old new ends m len bytes rest at is whole =
     let most : register m 12 ≡ len = (at_read m len at).0 in
     let here : IsAtRead m = at ∙ ap (λ k. Input k) (sym most) in
-    let seen : old ≡ fed_with m bytes = is ∙ ap (λ k. record (fed_with m bytes) { waits = Some (wait_of k (length bytes)) }) (sym most) in
+    let seen : old ≡ fed_with m bytes = is ∙ ap (λ k. record (fed_with m bytes)
+    { waits = Some (wait_of k (length bytes)) }) (sym most) in
     ap turned (ends m bytes rest here seen (rw most whole))
 
 -- an ended machine stays as it is

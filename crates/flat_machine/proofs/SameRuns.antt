@@ -30,14 +30,17 @@ steps_same (suc n) s = ap (any.next flat_rules) (steps_same n s)
 run_same : (m : Machine) (input : List ℕ) (n : ℕ) → any.run_from flat_rules m input n ≡ seen_as (run_from m input n)
 run_same m input n = steps_same n (record { machine = m; input = input; output = [] })
 
-running : (m : Machine) (input : List ℕ) (n : ℕ) → any.IsRunning flat_rules (any.run_from flat_rules m input n) → IsRunning (run_from m input n)
+running : (m : Machine) (input : List ℕ) (n : ℕ) → any.IsRunning flat_rules (any.run_from flat_rules m input n)
+    → IsRunning (run_from m input n)
 running m input n h = rw (run_same m input n) at h
 
-runs_same : (m : Machine) (input : List ℕ) (n : ℕ) → ((k : ℕ) → k < n → any.IsRunning flat_rules (any.run_from flat_rules m input k))
+runs_same : (m : Machine) (input : List ℕ) (n : ℕ) → ((k : ℕ) → k < n
+    → any.IsRunning flat_rules (any.run_from flat_rules m input k))
     → (k : ℕ) → k < n → IsRunning (run_from m input k)
 runs_same m input n h k l = running m input k (h k l)
 
-ends_same : (m : Machine) (input : List ℕ) (bound n : ℕ) (e : Ending) → any.EndsAt flat_rules m input bound n e → EndsAt m input bound n e
+ends_same : (m : Machine) (input : List ℕ) (bound n : ℕ) (e : Ending) → any.EndsAt flat_rules m input bound n e
+    → EndsAt m input bound n e
 ends_same m input bound n e h =
     record {
       within = h.within;
@@ -46,7 +49,8 @@ ends_same m input bound n e h =
       stays = ap seen_back (sym (run_same m input bound) ∙ h.stays ∙ run_same m input n);
     }
 
-stops_same : (m : Machine) (input : List ℕ) (bound taken : ℕ) → (taken ≤ bound) × any.StopsAt flat_rules m input bound taken
+stops_same : (m : Machine) (input : List ℕ) (bound taken : ℕ) → (taken ≤ bound)
+    × any.StopsAt flat_rules m input bound taken
     → Answers WriteFault m input bound taken
 stops_same m input bound taken (le, inl (before, len, is, wrote)) =
     (le, inl (before, len, is, rw (run_same m input before) at wrote))
@@ -55,7 +59,8 @@ stops_same m input bound taken (le, inr (inr (inl ended))) =
     (le, inr (inr (λ h. ended (ap (λ s. s.machine.ending) (run_same m input taken) ∙ h))))
 stops_same m input bound taken (le, inr (inr (inr lack))) = absurd (cc)
 
-answers_same : (E : Type 0) (end : RunEnd) (m : Machine) (input : List ℕ) (bound taken : ℕ) → any.Answers {E = E} flat_rules (Ok end) m input bound taken
+answers_same : (E : Type 0) (end : RunEnd) (m : Machine) (input : List ℕ) (bound taken : ℕ)
+    → any.Answers {E = E} flat_rules (Ok end) m input bound taken
     → Answers end m input bound taken
 answers_same E (Exited status n) m input bound taken h = (h.0, ends_same m input bound taken _ h.1)
 answers_same E (Illegal at n) m input bound taken h = (h.0, ends_same m input bound taken _ h.1)
@@ -64,7 +69,8 @@ answers_same E Steps m input bound taken h = (h.0, running m input taken h.1)
 answers_same E ReadFault m input bound taken h = (h.0, running m input taken h.1)
 answers_same E WriteFault m input bound taken h = stops_same m input bound taken h
 
-left_same : (m : Machine) (input : List ℕ) (n : ℕ) (now : FlatSeen) (told : Option (List ℕ)) → any.IsLeft (any.run_from flat_rules m input n) now told
+left_same : (m : Machine) (input : List ℕ) (n : ℕ) (now : FlatSeen) (told : Option (List ℕ))
+    → any.IsLeft (any.run_from flat_rules m input n) now told
     → IsLeft (run_from m input n) now told
 left_same m input n now told h =
     let e = run_same m input n in
@@ -74,7 +80,8 @@ left_same m input n now told h =
       left = h.left ∙ ap (λ s. Some s.input) e;
     }
 
-cut_same : (m : Machine) (input : List ℕ) (now : FlatSeen) (told : Option (List ℕ)) → any.IsCutOff flat_rules m input now told → IsCutOff m input now told
+cut_same : (m : Machine) (input : List ℕ) (now : FlatSeen) (told : Option (List ℕ))
+    → any.IsCutOff flat_rules m input now told → IsCutOff m input now told
 cut_same m input now told h =
     let most : register m 12 ≡ h.most = (at_read m h.most h.at_read).0 in
     record {
@@ -83,12 +90,15 @@ cut_same m input now told h =
       rest = h.rest;
       fewer = rw most h.fewer;
       whole = h.whole;
-      machine = h.machine ∙ ap (λ k. record (fed_with m h.bytes) { waits = Some (wait_of k (length h.bytes)) }) (sym most);
+      machine = h.machine ∙ ap (λ k. record (fed_with m h.bytes) { waits = Some (wait_of k (length h.bytes)) })
+          (sym most);
       left = h.left;
     }
 
-leaves_same : (E : Type 0) (end : RunEnd) (m : Machine) (input : List ℕ) (n : ℕ) (now : FlatSeen) (told : Option (List ℕ))
-    → any.Leaves {E = E} flat_rules (Ok end) (any.run_from flat_rules m input n) now told → Leaves end (run_from m input n) now told
+leaves_same : (E : Type 0) (end : RunEnd) (m : Machine) (input : List ℕ) (n : ℕ) (now : FlatSeen)
+    (told : Option (List ℕ))
+    → any.Leaves {E = E} flat_rules (Ok end) (any.run_from flat_rules m input n) now told
+    → Leaves end (run_from m input n) now told
 leaves_same E (Exited status k) m input n now told h = left_same m input n now told h
 leaves_same E (Illegal at k) m input n now told h = left_same m input n now told h
 leaves_same E (Fault kind at k) m input n now told h = left_same m input n now told h
@@ -98,7 +108,8 @@ leaves_same E ReadFault m input n now told h =
     cut_same (run_from m input n).machine (run_from m input n).input now told (rw e at h)
 leaves_same E WriteFault m input n now told h = left_same m input n now told h
 
-pub ran_same : (E : Type 0) (end : RunEnd) (bound : ℕ) (m : Machine) (input : List ℕ) (now : FlatSeen) (told : Option (List ℕ)) (IsWritten : List ℕ → Type 0)
+pub ran_same : (E : Type 0) (end : RunEnd) (bound : ℕ) (m : Machine) (input : List ℕ) (now : FlatSeen)
+    (told : Option (List ℕ)) (IsWritten : List ℕ → Type 0)
     → any.Ran {E = E} flat_rules (Ok end) bound m input now told IsWritten → Ran end bound m input now told IsWritten
 ran_same E end bound m input now told IsWritten h = record {
   taken = h.taken;

@@ -1,11 +1,13 @@
 -- Reads that wait for their input.
-use Rattle.std.proofs.Common.{◌≡◌, ℕ, ◌+◌, ◌≤◌, List, [], ◌++◌, Bool, true, false, cond, ◌&&◌, length, take, drop, refl, ap, sym, ◌∙◌, arith, inl, inr, append-nil}
+use Rattle.std.proofs.Common.{◌≡◌, ℕ, ◌+◌, ◌≤◌, List, [], ◌++◌, Bool, true, false, cond, ◌&&◌, length, take, drop, refl}
+use Rattle.std.proofs.Common.{ap, sym, ◌∙◌, arith, inl, inr, append-nil}
 use Rattle.std.specs.Prelude.{Option, Some, None, IsSomeAnd, not, ◌==◌}
 use Rattle.flat_machine.proofs.Buffers.{PassTogether, KeepRanges, SameStores, storable_part, storable_after, put_append}
 use Rattle.std.proofs.Math.Seq.{take-append_seam, drop-append_seam}
 use Rattle.std.proofs.lemmas.List.{take_all, drop_all, length-append}
 use Rattle.rv_isa.specs.declared.Instr.{Instr}
-use Rattle.rv_isa.specs.declared.Instr.TheVariants.{Lui, Auipc, Jal, Jalr, Branch, Load, Store, OpImm, Reg, Fence, Ecall, Ebreak}
+use Rattle.rv_isa.specs.declared.Instr.TheVariants.{Lui, Auipc, Jal, Jalr, Branch, Load, Store, OpImm, Reg, Fence}
+use Rattle.rv_isa.specs.declared.Instr.TheVariants.{Ecall, Ebreak}
 use Rattle.rv_isa.specs.Table.{decoded}
 use Rattle.machine_spec.specs.declared.Ending.{Ending}
 use Rattle.machine_spec.specs.declared.Ending.TheVariants.{Running, Exit, Illegal, Fault}
@@ -50,15 +52,18 @@ no_input : (len n : ℕ) (test : Bool) → cond test (Output len) Nothing ≡ In
 no_input len n true h = absurd (cc)
 no_input len n false h = absurd (cc)
 
-at_call : (m : Machine) (n : ℕ) (call : Call) → asks_by call m ≡ Input n → ReadsMost (λ input. calls_by call input m) m n
+at_call : (m : Machine) (n : ℕ) (call : Call) → asks_by call m ≡ Input n
+    → ReadsMost (λ input. calls_by call input m) m n
 at_call m n Read h =
-    at_read_call m n (register m 10 == 0) (can_store m.memory (register m 11) (register m 12)) (not (register m 12 == 0)) h
+    at_read_call m n (register m 10 == 0) (can_store m.memory (register m 11) (register m 12))
+    (not (register m 12 == 0)) h
 at_call m n Write h = absurd (no_input _ n _ h)
 at_call m n Exits h = absurd (cc)
 at_call m n Brk h = absurd (cc)
 at_call m n Unknown h = absurd (cc)
 
-at_instr : (m : Machine) (n : ℕ) (o : Option Instr) → asks_instr o m ≡ Input n → ReadsMost (λ input. executes input o m) m n
+at_instr : (m : Machine) (n : ℕ) (o : Option Instr) → asks_instr o m ≡ Input n
+    → ReadsMost (λ input. executes input o m) m n
 unfolding calls
 at_instr m n (Some Ecall) h = at_call m n (call_of (register m 17)) h
 at_instr m n (Some (Lui rd imm)) h = absurd (cc)
@@ -140,7 +145,8 @@ seen_fed hart m len fed bytes h =
     record { machine = ap (λ s. s.machine) h; len_is = ap (λ w. w.len) wait; fed_is = ap (λ w. w.fed) wait }
 
 -- the turn of a machine that waits
-completes_read : (hart m : Machine) (len fed : ℕ) (bytes rest : List ℕ) → seen_of (pause.Input len fed) hart ≡ fed_with m bytes
+completes_read : (hart m : Machine) (len fed : ℕ) (bytes rest : List ℕ)
+    → seen_of (pause.Input len fed) hart ≡ fed_with m bytes
     → fed ≤ len → asks m ≡ Input (register m 12) → IsWholeRead (register m 12) bytes rest
     → turn (bytes ++ rest) m ≡ quiet rest (answers fed hart)
 completes_read hart m len fed bytes rest h le at whole =
@@ -157,7 +163,8 @@ completes p hart m len fed bytes rest is paused seen =
     completes_read hart m len fed bytes rest (rw is at seen) (rw is at paused).1
 
 -- what a machine that waits still takes
-pub room_left : (p : Pause) (hart : Machine) (s : FlatSeen) (len fed n : ℕ) → seen_of p hart ≡ s → p ≡ pause.Input len fed
+pub room_left : (p : Pause) (hart : Machine) (s : FlatSeen) (len fed n : ℕ) → seen_of p hart ≡ s
+    → p ≡ pause.Input len fed
     → IsSomeAnd s.waits (λ wait. wait.fed + n ≤ wait.len) → fed + n ≤ len
 room_left p hart s len fed n seen is room =
     let e : s.waits ≡ Some (wait_of len fed) = sym (ap (λ s. s.waits) seen) ∙ ap waits_of is in
@@ -168,13 +175,15 @@ abbrev pub FedOn : Machine → ℕ → List ℕ → Machine → Type 0
 FedOn hart fed piece new = new ≡ record hart { memory = put_bytes hart.memory (register hart 11 + fed) piece }
 
 -- the piece goes into the buffer
-pub piece_fits : PassTogether → (p : Pause) (hart : Machine) (len fed n : ℕ) → p ≡ pause.Input len fed → IsPaused p hart → fed + n ≤ len
+pub piece_fits : PassTogether → (p : Pause) (hart : Machine) (len fed n : ℕ) → p ≡ pause.Input len fed → IsPaused p hart
+    → fed + n ≤ len
     → can_store hart.memory (register hart 11 + fed) n ≡ true
 piece_fits together p hart len fed n is paused room =
     storable_part together hart.memory (register hart 11) fed n len (rw is at paused).0 room
 
 -- the machine still waits
-pub feeds_paused : KeepRanges → SameStores → (p : Pause) (hart new : Machine) (len fed : ℕ) (piece : List ℕ) → p ≡ pause.Input len fed
+pub feeds_paused : KeepRanges → SameStores → (p : Pause) (hart new : Machine) (len fed : ℕ) (piece : List ℕ)
+    → p ≡ pause.Input len fed
     → IsPaused p hart → fed + length piece ≤ len → FedOn hart fed piece new
     → IsPaused (pause.Input len (fed + length piece)) new
 feeds_paused keep same p hart new len fed piece is paused room e =
@@ -186,7 +195,8 @@ adds_fed : (hart m new : Machine) (len fed : ℕ) (bytes piece : List ℕ) → S
     → FedOn hart fed piece new → seen_of (pause.Input len (fed + length piece)) new ≡ fed_with m (bytes ++ piece)
 adds_fed hart m new len fed bytes piece s e =
     let joined : new ≡ record m { memory = put_bytes m.memory (register m 11) (bytes ++ piece) } =
-    e ∙ rw (s.machine, s.fed_is) (ap (λ x. record m { memory = x }) (put_append m.memory (register m 11) bytes piece)) in
+    e ∙ rw (s.machine, s.fed_is) (ap (λ x. record m { memory = x })
+    (put_append m.memory (register m 11) bytes piece)) in
     let size : fed + length piece ≡ length (bytes ++ piece) = omega (arith, s.fed_is, length-append bytes piece) in
     rw (joined, size, s.len_is) refl
 

@@ -69,7 +69,8 @@ Leaves WriteFault s now told = IsLeft s now told
 
 -- a run of at most `bound` turns on an input: its answer, the machine before each turn that was taken, what it
 -- leaves, and what of its output was written
-pub record Ran (end : RunEnd) (bound : ℕ) (m : Machine) (input : List ℕ) (now : FlatSeen) (told : Option (List ℕ)) (IsWritten : List ℕ → Type 0) : Type 0 where
+pub record Ran (end : RunEnd) (bound : ℕ) (m : Machine) (input : List ℕ) (now : FlatSeen) (told : Option (List ℕ))
+    (IsWritten : List ℕ → Type 0) : Type 0 where
   pub taken : ℕ
   pub answer : Answers end m input bound taken
   pub runs : (k : ℕ) → k < taken → IsRunning (run_from m input k)

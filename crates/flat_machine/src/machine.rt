@@ -1,5 +1,6 @@
 // The flat machine with its steps, and with reads that wait for their input.
-ghost use Rattle.std.specs.Prelude.{◌≡◌, ◌≢◌, ◌+◌, ◌<◌, ◌≤◌, ℕ, List, [], ◌++◌, length, None, IsSome, IsSomeAnd, slice_index, take, drop};
+ghost use Rattle.std.specs.Prelude.{◌≡◌, ◌≢◌, ◌+◌, ◌<◌, ◌≤◌, ℕ, List, [], ◌++◌, length, None, IsSome, IsSomeAnd};
+ghost use Rattle.std.specs.Prelude.{slice_index, take, drop};
 ghost use Rattle.elf_spec.specs.Records.{e_entry};
 ghost use Rattle.machine_spec.specs.Memory.{memory_of};
 ghost use Rattle.flat_spec.specs.Machine.{Machine, register, start as start_of};

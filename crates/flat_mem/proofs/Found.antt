@@ -1,6 +1,7 @@
 -- The area at an address: where its byte stands, which range it is, and that it stays the same over the
 -- area's addresses.
-use Rattle.std.proofs.Common.{◌≡◌, ◌⊎◌, ℕ, suc, ◌+◌, ◌-◌, ◌<◌, ◌≤◌, List, [], ◌∷◌, Bool, true, false, cond, length, take, drop, refl, ap, ◌∙◌, arith, inl, inr, get_or, length-take, length-drop, AllPairs}
+use Rattle.std.proofs.Common.{◌≡◌, ◌⊎◌, ℕ, suc, ◌+◌, ◌-◌, ◌<◌, ◌≤◌, List, [], ◌∷◌, Bool, true, false, cond, length}
+use Rattle.std.proofs.Common.{take, drop, refl, ap, ◌∙◌, arith, inl, inr, get_or, length-take, length-drop, AllPairs}
 use Rattle.std.specs.Prelude.{Some, None, option_map, find}
 use Rattle.std.proofs.lemmas.Bool.Decides.{nat_tests}
 use Rattle.std.proofs.lemmas.List.{get_or-take, get_or-drop}
@@ -38,7 +39,14 @@ found a place (r ∷ rs) end s h e = at (found a (place + r.size) rs end s h.1) 
         let b : (r.start ≤ a) × (a < r.start + r.size) = has_bounds a r d in
         let l : place + r.size ≤ end = fills_end (place + r.size) rs end h.1 in
         let p : r.place ≡ place = h.0 in
-        let all : IsFound a place end r = record { has = d; low = b.0; high = b.1; behind = omega (arith, p); inside = omega (arith, p, l) } in
+        let all : IsFound a place end r = record {
+          has = d;
+          low = b.0;
+          high = b.1;
+          behind = omega (arith, p);
+          inside =
+              omega (arith, p, l);
+        } in
         rw same at all
     at ih false d e =
         let f : IsFound a (place + r.size) end s = ih e in
@@ -54,23 +62,27 @@ range_at_ranges a place [] bytes h = refl
 range_at_ranges a place (r ∷ rs) bytes h =
     let l : place + r.size ≤ length bytes = fills_end (place + r.size) rs (length bytes) h.1 in
     let p : r.place ≡ place = h.0 in
-    let n : length (take r.size (drop r.place bytes)) ≡ r.size = part_length r.size r.place bytes (omega (arith, p, l)) in
+    let n : length (take r.size (drop r.place bytes)) ≡ r.size =
+    part_length r.size r.place bytes (omega (arith, p, l)) in
     rw n (at (range_at_ranges a (place + r.size) rs bytes h.1) (has_address a r))
   where
     at : range_at (ranges rs bytes) a ≡ option_map (range_in bytes) (find (has_address a) rs) → (v : Bool)
-        → cond v (Some (range_in bytes r)) (range_at (ranges rs bytes) a) ≡ option_map (range_in bytes) (cond v (Some r) (find (has_address a) rs))
+        → cond v (Some (range_in bytes r)) (range_at (ranges rs bytes) a)
+        ≡ option_map (range_in bytes) (cond v (Some r) (find (has_address a) rs))
     at ih true = refl
     at ih false = ih
 
 -- the byte at an address stands in the area's part
 pub byte_found : (a place : ℕ) (areas : List Area) (bytes : List ℕ) (s : Area) → FillsFrom place areas (length bytes)
-    → find (has_address a) areas ≡ Some s → byte_of (ranges areas bytes) a ≡ Some (get_or bytes (s.place + (a - s.start)) 0)
+    → find (has_address a) areas ≡ Some s → byte_of (ranges areas bytes) a
+    ≡ Some (get_or bytes (s.place + (a - s.start)) 0)
 unfolding byte_of
 byte_found a place areas bytes s h e =
     let f : IsFound a place (length bytes) s = found a place areas (length bytes) s h e in
     let i : a - s.start < s.size = omega (arith, f.low, f.high) in
     rw (range_at_ranges a place areas bytes h, e)
-    (ap (λ x. Some x) (get_or-take s.size (drop s.place bytes) (a - s.start) 0 i ∙ get_or-drop s.place bytes (a - s.start) 0))
+    (ap (λ x. Some x) (get_or-take s.size (drop s.place bytes) (a - s.start) 0 i
+    ∙ get_or-drop s.place bytes (a - s.start) 0))
 
 pub no_byte : (a place : ℕ) (areas : List Area) (bytes : List ℕ) → FillsFrom place areas (length bytes)
     → find (has_address a) areas ≡ None → byte_of (ranges areas bytes) a ≡ None
@@ -83,7 +95,8 @@ find_place : (a : ℕ) (areas : List Area) (s : Area) → find (has_address a) a
 find_place a [] s e = absurd (cc)
 find_place a (r ∷ rs) s e = at (find_place a rs s) (has_address a r) refl e
   where
-    at : (find (has_address a) rs ≡ Some s → (j : ℕ) × (j < length rs) × (get_or rs j s ≡ s) × (has_address a s ≡ true)) → (v : Bool) → has_address a r ≡ v
+    at : (find (has_address a) rs ≡ Some s → (j : ℕ) × (j < length rs) × (get_or rs j s ≡ s) × (has_address a s ≡ true))
+        → (v : Bool) → has_address a r ≡ v
         → cond v (Some r) (find (has_address a) rs) ≡ Some s
         → (j : ℕ) × (j < length (r ∷ rs)) × (get_or (r ∷ rs) j s ≡ s) × (has_address a s ≡ true)
     at ih true d e = let same : r ≡ s = cc in (0, omega arith, same, rw same at d)
@@ -98,12 +111,14 @@ pairs_tail r rs h = λ i j d l m. h (suc i) (suc j) d (omega arith) (omega arith
 apart_has : (k : ℕ) (r s : Area) → AreApart r s → has_address k s ≡ true → has_address k r ≡ false
 apart_has k r s h e = at (has_address k r) refl (has_bounds k s e) h
   where
-    at : (v : Bool) → has_address k r ≡ v → (s.start ≤ k) × (k < s.start + s.size) → (r.start + r.size ≤ s.start) ⊎ (s.start + s.size ≤ r.start)
+    at : (v : Bool) → has_address k r ≡ v → (s.start ≤ k) × (k < s.start + s.size) → (r.start + r.size ≤ s.start)
+        ⊎ (s.start + s.size ≤ r.start)
         → has_address k r ≡ false
     at false d b h = d
     at true d b h = absurd (off (has_bounds k r d) b h)
       where
-        off : (r.start ≤ k) × (k < r.start + r.size) → (s.start ≤ k) × (k < s.start + s.size) → (r.start + r.size ≤ s.start) ⊎ (s.start + s.size ≤ r.start) → ⊥
+        off : (r.start ≤ k) × (k < r.start + r.size) → (s.start ≤ k) × (k < s.start + s.size)
+            → (r.start + r.size ≤ s.start) ⊎ (s.start + s.size ≤ r.start) → ⊥
         off (a, b) (c, d) (inl p) = omega arith
         off (a, b) (c, d) (inr p) = omega arith
 
@@ -114,12 +129,14 @@ stays a k [] s h e low high = absurd (cc)
 stays a k (r ∷ rs) s h e low high = at (λ e. stays a k rs s (pairs_tail r rs h) e low high) (has_address a r) refl e
   where
     at : (find (has_address a) rs ≡ Some s → find (has_address k) rs ≡ Some s) → (v : Bool) → has_address a r ≡ v
-        → cond v (Some r) (find (has_address a) rs) ≡ Some s → cond (has_address k r) (Some r) (find (has_address k) rs) ≡ Some s
+        → cond v (Some r) (find (has_address a) rs) ≡ Some s
+        → cond (has_address k r) (Some r) (find (has_address k) rs) ≡ Some s
     at ih true d e =
         let same : r ≡ s = cc in
         let there : has_address k r ≡ true = rw same (has_from k s low high) in
         rw there e
     at ih false d e =
         let (j, l, g, p) = find_place a rs s e in
-        let away : AreApart r s = let q : AreApart r (get_or rs j s) = h 0 (suc j) s (omega arith) (omega (arith, l)) in rw g at q in
+        let away : AreApart r s = let q : AreApart r (get_or rs j s) = h 0 (suc j) s (omega arith) (omega (arith, l)) in
+        rw g at q in
         rw (apart_has k r s away (has_from k s low high)) (ih e)

@@ -1,5 +1,6 @@
 -- Words that can't be stored to, which no store changes: what is kept of them stays right.
-use Rattle.std.proofs.Common.{◌≡◌, ◌⊎◌, ℕ, zero, suc, ◌+◌, ◌%◌, ◌<◌, ◌≤◌, List, [], ◌∷◌, Bool, true, false, cond, ◌==◌, ◌&&◌, length, map, refl, ap, sym, ◌∙◌, arith, inl, inr, replicate}
+use Rattle.std.proofs.Common.{◌≡◌, ◌⊎◌, ℕ, zero, suc, ◌+◌, ◌%◌, ◌<◌, ◌≤◌, List, [], ◌∷◌, Bool, true, false, cond, ◌==◌}
+use Rattle.std.proofs.Common.{◌&&◌, length, map, refl, ap, sym, ◌∙◌, arith, inl, inr, replicate}
 use Rattle.std.specs.List.{All}
 use Rattle.std.specs.Prelude.{Option, Some, None, not, nat_lt, option_and_then}
 use Rattle.std.proofs.lemmas.List.Elements.{All-nil, All-cons}
@@ -50,7 +51,8 @@ outside m a size j can fixed = at (nat_lt j a) (nat_lt j (a + size)) refl refl
     at false true e f =
         let low : a ≤ j = grind (arith, nat_tests) in
         let high : j < a + size = grind (arith, nat_tests) in
-        absurd (unlike (allows_store (range_at m j)) (each_passes (λ k. allows_store (range_at m k)) a size can j low high) fixed)
+        absurd (unlike (allows_store (range_at m j)) (each_passes (λ k. allows_store (range_at m k)) a size can j low
+        high) fixed)
 
 -- a store changes no word that can't be stored to
 fetched_kept : (m : List Range) (a : ℕ) (bs : List ℕ) (w : ℕ) → can_store m a (length bs) ≡ true
@@ -110,5 +112,6 @@ table_kept_number r m new width a v table does h =
     at true false e f = absurd (cc)
     at true true e f =
         let same : put_bytes m a (low_bytes (size_of width) v) ≡ new = cc in
-        let can : can_store m a (size_of width) ≡ true = and_second (a % size_of width == 0) (can_store m a (size_of width)) e in
+        let can : can_store m a (size_of width) ≡ true = and_second (a % size_of width == 0)
+        (can_store m a (size_of width)) e in
         rw same at (table_kept m a (low_bytes (size_of width) v) table (rw (length-low_bytes (size_of width) v) can) h)

@@ -1,5 +1,6 @@
 -- Loads, stores and fetches of numbers by what their addresses allow.
-use Rattle.std.proofs.Common.{◌≡◌, ◌≢◌, ℕ, zero, suc, ◌/◌, ◌%◌, ◌<◌, ◌≤◌, List, [], ◌∷◌, Bool, false, cond, length, take, refl, ap, ◌∙◌, arith}
+use Rattle.std.proofs.Common.{◌≡◌, ◌≢◌, ℕ, zero, suc, ◌/◌, ◌%◌, ◌<◌, ◌≤◌, List, [], ◌∷◌, Bool, false, cond, length}
+use Rattle.std.proofs.Common.{take, refl, ap, ◌∙◌, arith}
 use Rattle.std.specs.Prelude.{Option, Some, None, option_map, is_some}
 use Rattle.std.proofs.lemmas.Bool.{eq-eqb, ne_eqb}
 use Rattle.rv_isa.specs.declared.Width.{Width}
@@ -12,7 +13,8 @@ use Rattle.flat_mem.specs.Areas.{allows}
 use Rattle.flat_mem.proofs.Copies.{BytesThere, bytes_there}
 
 -- no bytes where an address is outside
-pub no_bytes : BytesThere → (m : List Range) (a n : ℕ) → all_from (λ k. allows Load (range_at m k)) a n ≡ false → bytes_from m a n ≡ None
+pub no_bytes : BytesThere → (m : List Range) (a n : ℕ) → all_from (λ k. allows Load (range_at m k)) a n ≡ false
+    → bytes_from m a n ≡ None
 no_bytes there m a n h = at (bytes_from m a n) (bytes_there there m a n ∙ h)
   where
     at : (o : Option (List ℕ)) → is_some o ≡ false → o ≡ None
@@ -53,7 +55,8 @@ pub loaded_when : (m : List Range) (width : Width) (a : ℕ) → a % size_of wid
 unfolding loaded
 loaded_when m width a h = rw (eq-eqb (a % size_of width) 0 h) (at (bytes_from m a (size_of width)))
   where
-    at : (o : Option (List ℕ)) → option_map (λ bs. loaded_as width (number_of bs)) o ≡ option_map (λ n. loaded_as width n) (option_map number_of o)
+    at : (o : Option (List ℕ)) → option_map (λ bs. loaded_as width (number_of bs)) o
+        ≡ option_map (λ n. loaded_as width n) (option_map number_of o)
     at None = refl
     at (Some bs) = refl
 

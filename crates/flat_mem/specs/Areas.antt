@@ -1,5 +1,6 @@
 -- How memory stands in one buffer: each area has its addresses, and a part of the buffer with its bytes.
-use Rattle.std.specs.Prelude.{◌≡◌, ℕ, ◌+◌, ◌≤◌, ◌⊎◌, List, [], ◌∷◌, ◌++◌, Bool, true, ◌&&◌, AllPairs, map, take, drop, length, nat_le, nat_lt, Option, is_some}
+use Rattle.std.specs.Prelude.{◌≡◌, ℕ, ◌+◌, ◌≤◌, ◌⊎◌, List, [], ◌∷◌, ◌++◌, Bool, true, ◌&&◌, AllPairs, map, take, drop}
+use Rattle.std.specs.Prelude.{length, nat_le, nat_lt, Option, is_some}
 use Rattle.machine_spec.specs.Memory.{Range}
 use Rattle.flat_spec.specs.Stores.{allows_store, allows_fetch}
 use Rattle.flat_mem.specs.declared.area.Area.{Area}

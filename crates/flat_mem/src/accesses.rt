@@ -28,7 +28,8 @@ pub fn get_in(areas: &[Area], bytes: &[u8], addr: u32) -> Option<u8>
 pub fn set_in(areas: &[Area], bytes: &mut [u8], addr: u32, byte: u8) -> bool
     requires { IsLaidOut areas.now bytes.old }
     ensures answer { result ≡ allows_store (range_at (ranges areas.now bytes.old) addr) }
-    ensures memory { ranges areas.now bytes.new ≡ (if result then put_byte (ranges areas.now bytes.old) addr byte else ranges areas.now bytes.old) }
+    ensures memory { ranges areas.now bytes.new ≡ (if result then put_byte (ranges areas.now bytes.old) addr byte else
+        ranges areas.now bytes.old) }
     ensures laid { IsLaidOut areas.now bytes.new }
 {
     match area_at(areas, addr as usize) {
@@ -108,7 +109,8 @@ pub fn fetch_in(areas: &[Area], bytes: &[u8], addr: u32) -> Option<u32>
 /// Stores the lowest bytes of a value, where that is allowed.
 pub fn store_in(areas: &[Area], bytes: &mut [u8], width: Width, addr: u32, value: u32) -> bool
     requires { IsLaidOut areas.now bytes.old }
-    ensures stores { Stores result (stored (ranges areas.now bytes.old) width addr value) (ranges areas.now bytes.old) (ranges areas.now bytes.new) }
+    ensures stores { Stores result (stored (ranges areas.now bytes.old) width addr value) (ranges areas.now bytes.old)
+        (ranges areas.now bytes.new) }
     ensures laid { IsLaidOut areas.now bytes.new }
 {
     all_addresses_pass_where_each_does();

@@ -79,7 +79,8 @@ pub fn area_at(areas: &[Area], addr: usize) -> Option<Area>
 
 /// Whether each of `len` addresses from one on allows an access.
 pub fn allows_all(areas: &[Area], access: Access, addr: u32, len: u32) -> bool
-    ensures { (bytes : List ℕ) → IsLaidOut areas.now bytes → result ≡ all_from (λ k. allows access (range_at (ranges areas.now bytes) k)) addr len }
+    ensures { (bytes : List ℕ) → IsLaidOut areas.now bytes → result
+        ≡ all_from (λ k. allows access (range_at (ranges areas.now bytes) k)) addr len }
 {
     all_addresses_pass_where_each_does();
     let end = addr as usize + len as usize;

@@ -34,7 +34,14 @@ fn add(
     requires parts { FillsFrom 0 areas.old.items (length bytes.old.items) }
     ensures parts { OnOk result (FillsFrom 0 areas.new.items (length bytes.new.items)) }
     ensures long { OnOk result (length bytes.new.items ≡ length bytes.old.items + area.size) }
-    ensures ranges { OnOk result (ranges areas.new.items bytes.new.items ≡ ranges areas.old.items bytes.old.items ++ record { start = area.start; writable = area.writable; executable = area.executable; bytes = part.now ++ replicate (area.size - length part.now) 0 } ∷ []) }
+    ensures ranges { OnOk result (ranges areas.new.items bytes.new.items ≡ ranges areas.old.items bytes.old.items
+        ++ record {
+          start = area.start;
+          writable = area.writable;
+          executable = area.executable;
+          bytes = part.now
+              ++ replicate (area.size - length part.now) 0;
+        } ∷ []) }
 {
     bytes.extend_from_slice(part)?;
     bytes.resize(area.place + area.size as usize, 0)?;
@@ -54,7 +61,8 @@ fn add_segment(
     requires parts { FillsFrom 0 areas.old.items (length bytes.old.items) }
     ensures parts { OnOk result (FillsFrom 0 areas.new.items (length bytes.new.items)) }
     ensures long { OnOk result (length bytes.new.items ≡ length bytes.old.items + load_size segment.now) }
-    ensures ranges { OnOk result (ranges areas.new.items bytes.new.items ≡ ranges areas.old.items bytes.old.items ++ map (range_of file.now) (filter is_loaded (segment.now ∷ []))) }
+    ensures ranges { OnOk result (ranges areas.new.items bytes.new.items ≡ ranges areas.old.items bytes.old.items
+        ++ map (range_of file.now) (filter is_loaded (segment.now ∷ []))) }
 {
     if !is_loaded(segment) {
         return Ok(());
@@ -89,7 +97,8 @@ fn add_stack(areas: &mut Vec<Area>, bytes: &mut Vec<u8>) -> Result<(), AllocErro
     requires room { length bytes.old.items ≤ 134217728 }
     requires parts { FillsFrom 0 areas.old.items (length bytes.old.items) }
     ensures parts { OnOk result (FillsFrom 0 areas.new.items (length bytes.new.items)) }
-    ensures ranges { OnOk result (ranges areas.new.items bytes.new.items ≡ ranges areas.old.items bytes.old.items ++ stack ∷ []) }
+    ensures ranges { OnOk result (ranges areas.new.items bytes.new.items ≡ ranges areas.old.items bytes.old.items
+        ++ stack ∷ []) }
 {
     let area = Area {
         start: STACK_START,

@@ -3,7 +3,8 @@
 ghost use Rattle.std.specs.Prelude.{◌≡◌, ◌+◌, true, length, Some, IfSome, is_some, if◌then◌else◌};
 ghost use Rattle.rv_isa.specs.Encoded.{NamesRegisters};
 ghost use Rattle.machine_spec.specs.Memory.{byte_of, range_at};
-ghost use Rattle.flat_spec.specs.Stores.{allows_store, bytes_from, can_store, fetched, loaded, put_byte, put_bytes, stored};
+ghost use Rattle.flat_spec.specs.Stores.{allows_store, bytes_from, can_store, fetched, loaded, put_byte, put_bytes};
+ghost use Rattle.flat_spec.specs.Stores.{stored};
 ghost use Rattle.flat_mem.specs.Calls.{Stores};
 ghost use Rattle.flat_mem.specs.Decoded.{instr_at, IsKnown, IsTable};
 

@@ -1,5 +1,6 @@
 -- Laws of memory: what depends on the ranges and flags alone, and which bytes a store changes.
-use Rattle.std.proofs.Common.{◌≡◌, ◌≢◌, ℕ, ◌+◌, ◌-◌, ◌<◌, ◌≤◌, List, [], ◌∷◌, Bool, true, false, cond, ◌&&◌, length, map, refl, ap, sym, ◌∙◌, arith, length-set, get_or-set_same, get_or-set_other}
+use Rattle.std.proofs.Common.{◌≡◌, ◌≢◌, ℕ, ◌+◌, ◌-◌, ◌<◌, ◌≤◌, List, [], ◌∷◌, Bool, true, false, cond, ◌&&◌, length}
+use Rattle.std.proofs.Common.{map, refl, ap, sym, ◌∙◌, arith, length-set, get_or-set_same, get_or-set_other}
 use Rattle.std.specs.Prelude.{Option, Some, None, option_map, is_some, find, nat_le, nat_lt, slice_index, slice_set}
 use Rattle.std.proofs.lemmas.Bool.Decides.{nat_tests}
 use Rattle.machine_spec.specs.Memory.{Range, Shape, shape_of, covers, range_at, byte_of}
@@ -14,7 +15,8 @@ range_shape [] a = refl
 range_shape (r ∷ rs) a = at (range_shape rs a) (covers a r)
   where
     at : option_map shape_of (range_at rs a) ≡ find (shape_covers a) (map shape_of rs) → (v : Bool)
-        → option_map shape_of (cond v (Some r) (range_at rs a)) ≡ cond v (Some (shape_of r)) (find (shape_covers a) (map shape_of rs))
+        → option_map shape_of (cond v (Some r) (range_at rs a))
+        ≡ cond v (Some (shape_of r)) (find (shape_covers a) (map shape_of rs))
     at h true = refl
     at h false = h
 
@@ -43,15 +45,18 @@ is_some_shape (Some r) = refl
 is_some_shape None = refl
 
 -- memories of one shape can be stored to, run and read at the same addresses
-pub same_writable : (m n : List Range) (a : ℕ) → map shape_of m ≡ map shape_of n → allows_store (range_at m a) ≡ allows_store (range_at n a)
+pub same_writable : (m n : List Range) (a : ℕ) → map shape_of m ≡ map shape_of n
+    → allows_store (range_at m a) ≡ allows_store (range_at n a)
 same_writable m n a e =
     writable_shape (range_at m a) ∙ ap shape_writable (same_range m n a e) ∙ sym (writable_shape (range_at n a))
 
-pub same_executable : (m n : List Range) (a : ℕ) → map shape_of m ≡ map shape_of n → allows_fetch (range_at m a) ≡ allows_fetch (range_at n a)
+pub same_executable : (m n : List Range) (a : ℕ) → map shape_of m ≡ map shape_of n
+    → allows_fetch (range_at m a) ≡ allows_fetch (range_at n a)
 same_executable m n a e =
     executable_shape (range_at m a) ∙ ap shape_executable (same_range m n a e) ∙ sym (executable_shape (range_at n a))
 
-pub same_there : (m n : List Range) (a : ℕ) → map shape_of m ≡ map shape_of n → is_some (range_at m a) ≡ is_some (range_at n a)
+pub same_there : (m n : List Range) (a : ℕ) → map shape_of m ≡ map shape_of n
+    → is_some (range_at m a) ≡ is_some (range_at n a)
 same_there m n a e =
     is_some_shape (range_at m a) ∙ ap is_some (same_range m n a e) ∙ sym (is_some_shape (range_at n a))
 
@@ -73,9 +78,11 @@ put_byte_shape [] a b = refl
 put_byte_shape (r ∷ rs) a b = at (put_byte_shape rs a b) (covers a r)
   where
     at : map shape_of (put_byte rs a b) ≡ map shape_of rs → (v : Bool)
-        → map shape_of (cond v (record r { bytes = slice_set r.bytes (a - r.start) b } ∷ rs) (r ∷ put_byte rs a b)) ≡ shape_of r ∷ map shape_of rs
+        → map shape_of (cond v (record r { bytes = slice_set r.bytes (a - r.start) b } ∷ rs) (r ∷ put_byte rs a b))
+        ≡ shape_of r ∷ map shape_of rs
     at h true =
-        ap (λ n. record { start = r.start; size = n; writable = r.writable; executable = r.executable } ∷ map shape_of rs)
+        ap (λ n. record { start = r.start; size = n; writable = r.writable; executable = r.executable }
+        ∷ map shape_of rs)
         (length-set r.bytes (a - r.start) b)
     at h false = ap (λ s. shape_of r ∷ s) h
 
@@ -85,9 +92,12 @@ unfolding byte_of
 put_there [] a b h = cc
 put_there (r ∷ rs) a b h = at (put_there rs a b) (covers a r) refl h
   where
-    at : (is_some (range_at rs a) ≡ true → option_map (λ r. slice_index r.bytes (a - r.start)) (range_at (put_byte rs a b) a) ≡ Some b) → (v : Bool) → covers a r ≡ v
+    at : (is_some (range_at rs a) ≡ true → option_map (λ r. slice_index r.bytes (a - r.start))
+        (range_at (put_byte rs a b) a) ≡ Some b) → (v : Bool) → covers a r ≡ v
         → is_some (cond v (Some r) (range_at rs a)) ≡ true
-        → option_map (λ r. slice_index r.bytes (a - r.start)) (range_at (cond v (record r { bytes = slice_set r.bytes (a - r.start) b } ∷ rs) (r ∷ put_byte rs a b)) a) ≡ Some b
+        → option_map (λ r. slice_index r.bytes (a - r.start))
+        (range_at (cond v (record r { bytes = slice_set r.bytes (a - r.start) b } ∷ rs) (r ∷ put_byte rs a b)) a)
+        ≡ Some b
     at ih true e h =
         let bounds : (r.start ≤ a) × (a < r.start + length r.bytes) = covers_bounds a r e in
         let inside : a - r.start < length r.bytes = omega (arith, bounds.0, bounds.1) in
@@ -101,7 +111,8 @@ put_elsewhere [] a b k n = refl
 put_elsewhere (r ∷ rs) a b k n = at (put_elsewhere rs a b k n) (covers a r) refl
   where
     stays : (v : Bool) → covers k r ≡ v → covers a r ≡ true
-        → option_map (λ r. slice_index r.bytes (k - r.start)) (cond v (Some (record r { bytes = slice_set r.bytes (a - r.start) b })) (range_at rs k))
+        → option_map (λ r. slice_index r.bytes (k - r.start))
+        (cond v (Some (record r { bytes = slice_set r.bytes (a - r.start) b })) (range_at rs k))
         ≡ option_map (λ r. slice_index r.bytes (k - r.start)) (cond v (Some r) (range_at rs k))
     stays true e f =
         let there : (r.start ≤ k) × (k < r.start + length r.bytes) = covers_bounds k r e in
@@ -110,13 +121,16 @@ put_elsewhere (r ∷ rs) a b k n = at (put_elsewhere rs a b k n) (covers a r) re
         ap (λ x. Some x) (get_or-set_other r.bytes (a - r.start) (k - r.start) b 0 other)
     stays false e f = refl
 
-    at : option_map (λ r. slice_index r.bytes (k - r.start)) (range_at (put_byte rs a b) k) ≡ option_map (λ r. slice_index r.bytes (k - r.start)) (range_at rs k) → (v : Bool) → covers a r ≡ v
-        → option_map (λ r. slice_index r.bytes (k - r.start)) (range_at (cond v (record r { bytes = slice_set r.bytes (a - r.start) b } ∷ rs) (r ∷ put_byte rs a b)) k)
+    at : option_map (λ r. slice_index r.bytes (k - r.start)) (range_at (put_byte rs a b) k)
+        ≡ option_map (λ r. slice_index r.bytes (k - r.start)) (range_at rs k) → (v : Bool) → covers a r ≡ v
+        → option_map (λ r. slice_index r.bytes (k - r.start))
+        (range_at (cond v (record r { bytes = slice_set r.bytes (a - r.start) b } ∷ rs) (r ∷ put_byte rs a b)) k)
         ≡ option_map (λ r. slice_index r.bytes (k - r.start)) (range_at (r ∷ rs) k)
     at ih true e = rw (length-set r.bytes (a - r.start) b) (stays (covers k r) refl e)
     at ih false e = below (covers k r)
       where
-        below : (v : Bool) → option_map (λ r. slice_index r.bytes (k - r.start)) (cond v (Some r) (range_at (put_byte rs a b) k))
+        below : (v : Bool) → option_map (λ r. slice_index r.bytes (k - r.start))
+            (cond v (Some r) (range_at (put_byte rs a b) k))
             ≡ option_map (λ r. slice_index r.bytes (k - r.start)) (cond v (Some r) (range_at rs k))
         below true = refl
         below false = ih

@@ -1,6 +1,7 @@
 -- Loads from memory, stores to it and fetches of code. Numbers stand in memory little-endian (RISC-V
 -- unprivileged manual, "Load and Store Instructions").
-use Rattle.std.specs.Prelude.{ℕ, zero, suc, ◌+◌, ◌-◌, ◌%◌, ◌==◌, List, [], ◌∷◌, Bool, false, ◌&&◌, Option, Some, None, option_map, option_and_then, if◌then◌else◌, slice_set}
+use Rattle.std.specs.Prelude.{ℕ, zero, suc, ◌+◌, ◌-◌, ◌%◌, ◌==◌, List, [], ◌∷◌, Bool, false, ◌&&◌, Option, Some, None}
+use Rattle.std.specs.Prelude.{option_map, option_and_then, if◌then◌else◌, slice_set}
 use Rattle.rv_isa.specs.declared.Width.{Width}
 use Rattle.machine_spec.specs.Widths.{number_of, low_bytes, size_of, loaded_as}
 use Rattle.machine_spec.specs.Memory.{Range, covers, range_at, byte_of, all_from}

@@ -1,5 +1,6 @@
 // Laws of memory and of turns, each an empty function whose contract is proved.
-ghost use Rattle.std.specs.Prelude.{◌≡◌, ◌+◌, ◌^◌, ◌<◌, ◌≤◌, ◌⊎◌, ℕ, List, Some, true, map, length, is_some, slice_index};
+ghost use Rattle.std.specs.Prelude.{◌≡◌, ◌+◌, ◌^◌, ◌<◌, ◌≤◌, ◌⊎◌, ℕ, List, Some, true, map, length, is_some};
+ghost use Rattle.std.specs.Prelude.{slice_index};
 ghost use Rattle.rv_isa.specs.Table.{decoded};
 ghost use Rattle.machine_spec.specs.declared.Ending.TheVariants.{Running};
 ghost use Rattle.machine_spec.specs.Memory.{Range, shape_of, range_at, byte_of};

@@ -23,11 +23,13 @@ unfolding opened
 words_are = refl
 
 pub cost_is : (g : Rights) (registers memory : ℕ → ℕ)
-    → option_map (λ s. s.spent) (frag_run g countdown 5 (record { registers = registers; memory = memory; spent = 0 })) ≡ Some 39
+    → option_map (λ s. s.spent) (frag_run g countdown 5 (record { registers = registers; memory = memory; spent = 0 }))
+    ≡ Some 39
 unfolding opened
 cost_is g registers memory = refl
 
-pub turns_are : (g : Rights) (registers memory : ℕ → ℕ) → frag_run g countdown 4 (record { registers = registers; memory = memory; spent = 0 }) ≡ None
+pub turns_are : (g : Rights) (registers memory : ℕ → ℕ) → frag_run g countdown 4
+    (record { registers = registers; memory = memory; spent = 0 }) ≡ None
 unfolding opened
 turns_are g registers memory = refl
 

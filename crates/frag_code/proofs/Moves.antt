@@ -1,9 +1,11 @@
 -- The step of each instruction of a fragment's code.
-use Rattle.std.proofs.Common.{◌≡◌, ℕ, zero, suc, ◌+◌, ◌%◌, ◌^◌, ◌<◌, List, Bool, true, false, cond, refl, ap, sym, ◌∙◌, arith}
+use Rattle.std.proofs.Common.{◌≡◌, ℕ, zero, suc, ◌+◌, ◌%◌, ◌^◌, ◌<◌, List, Bool, true, false, cond, refl, ap, sym, ◌∙◌}
+use Rattle.std.proofs.Common.{arith}
 use Rattle.std.specs.Prelude.{Some, nat_eq, ◌==◌, slice_set}
 use Rattle.std.proofs.lemmas.Bool.Decides.{nat_tests}
 use Rattle.rv_isa.specs.declared.Op.{Op}
-use Rattle.rv_isa.specs.declared.Op.TheVariants.{Add, Sub, Sll, Slt, Sltu, Xor, Srl, Sra, Or, And, Mul, Mulh, Mulhsu, Mulhu, Div, Divu, Rem, Remu}
+use Rattle.rv_isa.specs.declared.Op.TheVariants.{Add, Sub, Sll, Slt, Sltu, Xor, Srl, Sra, Or, And, Mul, Mulh, Mulhsu}
+use Rattle.rv_isa.specs.declared.Op.TheVariants.{Mulhu, Div, Divu, Rem, Remu}
 use Rattle.rv_isa.specs.declared.Cond.{Cond}
 use Rattle.rv_isa.specs.declared.Width.TheVariants.{Word}
 use Rattle.rv_isa.specs.declared.Instr.{Instr}
@@ -36,7 +38,8 @@ pub record Moves (g : Rights) (start : Machine) (at : ℕ) (s : View) (m : Machi
 
 -- an access that is allowed
 pub allowed_aligned : (right : ℕ → Bool) (a : ℕ) → is_allowed right a ≡ true → a % 4 ≡ 0
-allowed_aligned right a h = let first : (a % 4 == 0) ≡ true = and_first (a % 4 == 0) (right a) h in grind (arith, nat_tests)
+allowed_aligned right a h = let first : (a % 4 == 0) ≡ true = and_first (a % 4 == 0) (right a) h in
+    grind (arith, nat_tests)
 
 pub allowed_right : (right : ℕ → Bool) (a : ℕ) → is_allowed right a ≡ true → right a ≡ true
 allowed_right right a h = and_second (a % 4 == 0) (right a) h
@@ -77,7 +80,8 @@ unfolding computed
 sum_is a b v e = e
 
 -- what each instruction does, with what its registers hold
-lui_acts : (input : List ℕ) (m : Machine) (rd u : ℕ) → executes input (Some (rv.Lui rd u)) m ≡ quiet input (flat.gives rd u m)
+lui_acts : (input : List ℕ) (m : Machine) (rd u : ℕ) → executes input (Some (rv.Lui rd u)) m
+    ≡ quiet input (flat.gives rd u m)
 unfolding acts
 lui_acts input m rd u = refl
 
@@ -96,27 +100,34 @@ imm_acts : (input : List ℕ) (m : Machine) (op : Op) (rd rs1 imm a b : ℕ) →
 unfolding acts
 imm_acts input m op rd rs1 imm a b e f = rw (sym e, sym f) refl
 
-load_acts : (input : List ℕ) (m : Machine) (rd rs1 offset b v : ℕ) → register m rs1 ≡ b → loaded m.memory Word (plus b offset) ≡ Some v
+load_acts : (input : List ℕ) (m : Machine) (rd rs1 offset b v : ℕ) → register m rs1 ≡ b
+    → loaded m.memory Word (plus b offset) ≡ Some v
     → executes input (Some (rv.Load Word rd rs1 offset)) m ≡ quiet input (flat.gives rd v m)
 unfolding acts
 load_acts input m rd rs1 offset b v e l = rw (e, l) refl
 
 store_acts : (input : List ℕ) (m : Machine) (rs1 rs2 offset b v : ℕ) → register m rs1 ≡ b → register m rs2 ≡ v
-    → executes input (Some (rv.Store Word rs1 rs2 offset)) m ≡ quiet input (flat.stores (stored m.memory Word (plus b offset) v) m)
+    → executes input (Some (rv.Store Word rs1 rs2 offset)) m
+    ≡ quiet input (flat.stores (stored m.memory Word (plus b offset) v) m)
 unfolding acts
 store_acts input m rs1 rs2 offset b v e f = rw (sym e, sym f) refl
 
 jal_acts : (input : List ℕ) (m : Machine) (distance a : ℕ) → plus m.pc distance ≡ a → a % 4 ≡ 0
-    → executes input (Some (rv.Jal 0 distance)) m ≡ quiet input (record m { registers = slice_set m.registers 0 (behind m.pc); pc = a })
+    → executes input (Some (rv.Jal 0 distance)) m ≡ quiet input
+    (record m { registers = slice_set m.registers 0 (behind m.pc); pc = a })
 unfolding acts
 jal_acts input m distance a e aligned = let test : (a % 4 == 0) ≡ true = grind (arith, nat_tests) in rw (e, test) refl
 
-taken_acts : (input : List ℕ) (m : Machine) (c : Cond) (rs1 rs2 a : ℕ) → is_held c (register m rs1) (register m rs2) ≡ true → plus m.pc 8 ≡ a → a % 4 ≡ 0
-    → executes input (Some (rv.Branch c rs1 rs2 8)) m ≡ quiet input (record m { registers = slice_set m.registers 0 (behind m.pc); pc = a })
+taken_acts : (input : List ℕ) (m : Machine) (c : Cond) (rs1 rs2 a : ℕ)
+    → is_held c (register m rs1) (register m rs2) ≡ true → plus m.pc 8 ≡ a → a % 4 ≡ 0
+    → executes input (Some (rv.Branch c rs1 rs2 8)) m ≡ quiet input
+    (record m { registers = slice_set m.registers 0 (behind m.pc); pc = a })
 unfolding acts
-taken_acts input m c rs1 rs2 a held e aligned = let test : (a % 4 == 0) ≡ true = grind (arith, nat_tests) in rw (held, e, test) refl
+taken_acts input m c rs1 rs2 a held e aligned = let test : (a % 4 == 0) ≡ true = grind (arith, nat_tests) in
+    rw (held, e, test) refl
 
-missed_acts : (input : List ℕ) (m : Machine) (c : Cond) (rs1 rs2 : ℕ) → is_held c (register m rs1) (register m rs2) ≡ false
+missed_acts : (input : List ℕ) (m : Machine) (c : Cond) (rs1 rs2 : ℕ)
+    → is_held c (register m rs1) (register m rs2) ≡ false
     → executes input (Some (rv.Branch c rs1 rs2 8)) m ≡ quiet input (flat.passes m)
 unfolding acts
 missed_acts input m c rs1 rs2 held = rw held refl
@@ -142,13 +153,17 @@ operand_word Divu imm h = absurd h
 operand_word Rem imm h = absurd h
 operand_word Remu imm h = absurd h
 
-module _ (decodes : (i : Instr) → IsFormed i → decoded (encoded i) ≡ Some i) (g : Rights) (start : Machine) (given : HasRights start.memory g) (input output : List ℕ) where
+module _ (decodes : (i : Instr) → IsFormed i → decoded (encoded i) ≡ Some i) (g : Rights) (start : Machine)
+    (given : HasRights start.memory g) (input output : List ℕ) where
   -- an instruction that gives a register
-  gives_move : (at rd v : ℕ) (i : Instr) (s : View) (m : Machine) → OnWay g start at s m → IsWordAt start.memory (at % 2 ^ 32) (encoded i)
-      → IsFormed i → is_target rd ≡ true → executes input (Some i) m ≡ quiet input (flat.gives rd v m) → Moves g start (at + 4) (with_register rd v s) m input output
+  gives_move : (at rd v : ℕ) (i : Instr) (s : View) (m : Machine) → OnWay g start at s m
+      → IsWordAt start.memory (at % 2 ^ 32) (encoded i)
+      → IsFormed i → is_target rd ≡ true → executes input (Some i) m ≡ quiet input (flat.gives rd v m)
+      → Moves g start (at + 4) (with_register rd v s) m input output
   gives_move at rd v i s m h stands formed target e = record {
     next = flat.gives rd v m;
-    is = step_quiet input output m (flat.gives rd v m) (turn_at decodes g start at i s m input given h stands formed ∙ e);
+    is = step_quiet input output m (flat.gives rd v m) (turn_at decodes g start at i s m input given h stands formed
+        ∙ e);
     way = way_gives g start at rd v s m h target;
   }
 
@@ -163,57 +178,77 @@ module _ (decodes : (i : Instr) → IsFormed i → decoded (encoded i) ≡ Some 
       → IsWordAt start.memory (at % 2 ^ 32) (encoded (rv.OpImm Add rd rd (split_of v).1)) → is_target rd ≡ true
       → Moves g start (at + 4) (with_register rd (v % 2 ^ 32) s) m input output
   addi_move at rd v s m h stands target =
-      let upper : register m rd ≡ (split_of v).0 = h.shows.registers rd (target_small rd target).1 ∙ here rd (target_small rd target).0 in
-      let moves : Moves g start (at + 4) (with_register rd (v % 2 ^ 32) (with_register rd (split_of v).0 s)) m input output =
+      let upper : register m rd ≡ (split_of v).0 = h.shows.registers rd (target_small rd target).1
+      ∙ here rd (target_small rd target).0 in
+      let moves : Moves g start (at + 4) (with_register rd (v % 2 ^ 32) (with_register rd (split_of v).0 s)) m input
+      output =
       gives_move at rd (v % 2 ^ 32) (rv.OpImm Add rd rd (split_of v).1) (with_register rd (split_of v).0 s) m h stands
       ((target_small rd target).1, (target_small rd target).1, split_lower v) target
-      (addi_acts input m rd (split_of v).1 ∙ ap (λ x. quiet input (flat.gives rd x m)) (sum_is (register m rd) (split_of v).1 (v % 2 ^ 32) (rw upper (split_sum v)))) in
-      record { next = moves.next; is = moves.is; way = way_again g start (at + 4) rd (split_of v).0 (v % 2 ^ 32) s moves.next moves.way }
+      (addi_acts input m rd (split_of v).1 ∙ ap (λ x. quiet input (flat.gives rd x m))
+      (sum_is (register m rd) (split_of v).1 (v % 2 ^ 32) (rw upper (split_sum v)))) in
+      record {
+        next = moves.next;
+        is = moves.is;
+        way = way_again g start (at + 4) rd (split_of v).0 (v % 2 ^ 32) s
+            moves.next moves.way;
+      }
     where
       here : (r : ℕ) → 0 < r → read (put s.registers r (split_of v).0) r ≡ (split_of v).0
       here zero h = absurd (omega arith)
       here (suc r) h = let same : nat_eq (suc r) (suc r) ≡ true = grind (arith, nat_tests) in rw same refl
 
   pub compute_move : (at : ℕ) (op : Op) (rd rs1 rs2 : ℕ) (s : View) (m : Machine) → OnWay g start at s m
-      → IsWordAt start.memory (at % 2 ^ 32) (encoded (rv.Reg op rd rs1 rs2)) → is_target rd ≡ true → is_source rs1 ≡ true → is_source rs2 ≡ true
-      → Moves g start (at + 4) (with_register rd (computed op (read s.registers rs1) (read s.registers rs2)) s) m input output
+      → IsWordAt start.memory (at % 2 ^ 32) (encoded (rv.Reg op rd rs1 rs2)) → is_target rd ≡ true
+      → is_source rs1 ≡ true → is_source rs2 ≡ true
+      → Moves g start (at + 4) (with_register rd (computed op (read s.registers rs1) (read s.registers rs2)) s) m input
+      output
   compute_move at op rd rs1 rs2 s m h stands target first second =
       gives_move at rd (computed op (read s.registers rs1) (read s.registers rs2)) (rv.Reg op rd rs1 rs2) s m h stands
       ((target_small rd target).1, source_small rs1 first, source_small rs2 second) target
-      (compute_acts input m op rd rs1 rs2 (read s.registers rs1) (read s.registers rs2) (h.shows.registers rs1 (source_small rs1 first)) (h.shows.registers rs2 (source_small rs2 second)))
+      (compute_acts input m op rd rs1 rs2 (read s.registers rs1) (read s.registers rs2)
+      (h.shows.registers rs1 (source_small rs1 first)) (h.shows.registers rs2 (source_small rs2 second)))
 
   pub imm_move : (at : ℕ) (op : Op) (rd rs1 imm : ℕ) (s : View) (m : Machine) → OnWay g start at s m
-      → IsWordAt start.memory (at % 2 ^ 32) (encoded (rv.OpImm op rd rs1 imm)) → is_target rd ≡ true → is_source rs1 ≡ true → IsOperand op imm
+      → IsWordAt start.memory (at % 2 ^ 32) (encoded (rv.OpImm op rd rs1 imm)) → is_target rd ≡ true
+      → is_source rs1 ≡ true → IsOperand op imm
       → Moves g start (at + 4) (with_register rd (computed op (read s.registers rs1) (imm % 2 ^ 32)) s) m input output
   imm_move at op rd rs1 imm s m h stands target source operand =
       gives_move at rd (computed op (read s.registers rs1) (imm % 2 ^ 32)) (rv.OpImm op rd rs1 imm) s m h stands
       ((target_small rd target).1, source_small rs1 source, operand) target
-      (imm_acts input m op rd rs1 imm (read s.registers rs1) (imm % 2 ^ 32) (h.shows.registers rs1 (source_small rs1 source)) (operand_word op imm operand))
+      (imm_acts input m op rd rs1 imm (read s.registers rs1) (imm % 2 ^ 32)
+      (h.shows.registers rs1 (source_small rs1 source)) (operand_word op imm operand))
 
   pub load_move : (at rd rs1 offset : ℕ) (s : View) (m : Machine) → OnWay g start at s m
-      → IsWordAt start.memory (at % 2 ^ 32) (encoded (rv.Load Word rd rs1 offset)) → is_target rd ≡ true → is_source rs1 ≡ true → IsExtended 12 offset
+      → IsWordAt start.memory (at % 2 ^ 32) (encoded (rv.Load Word rd rs1 offset)) → is_target rd ≡ true
+      → is_source rs1 ≡ true → IsExtended 12 offset
       → is_allowed g.reads (plus (read s.registers rs1) offset) ≡ true
       → Moves g start (at + 4) (with_register rd (s.memory (plus (read s.registers rs1) offset)) s) m input output
   load_move at rd rs1 offset s m h stands target source near may =
       let a : ℕ = plus (read s.registers rs1) offset in
       gives_move at rd (s.memory a) (rv.Load Word rd rs1 offset) s m h stands
       ((target_small rd target).1, source_small rs1 source, near) target
-      (load_acts input m rd rs1 offset (read s.registers rs1) (s.memory a) (h.shows.registers rs1 (source_small rs1 source))
+      (load_acts input m rd rs1 offset (read s.registers rs1) (s.memory a)
+      (h.shows.registers rs1 (source_small rs1 source))
       (h.shows.words a (allowed_aligned g.reads a may) (allowed_right g.reads a may)))
 
   pub store_move : (at rs1 rs2 offset : ℕ) (s : View) (m : Machine) → OnWay g start at s m
-      → IsWordAt start.memory (at % 2 ^ 32) (encoded (rv.Store Word rs1 rs2 offset)) → is_source rs1 ≡ true → is_source rs2 ≡ true → IsExtended 12 offset
+      → IsWordAt start.memory (at % 2 ^ 32) (encoded (rv.Store Word rs1 rs2 offset)) → is_source rs1 ≡ true
+      → is_source rs2 ≡ true → IsExtended 12 offset
       → is_allowed g.writes (plus (read s.registers rs1) offset) ≡ true
-      → Moves g start (at + 4) (with_word (plus (read s.registers rs1) offset) (read s.registers rs2 % 2 ^ 32) s) m input output
+      → Moves g start (at + 4) (with_word (plus (read s.registers rs1) offset) (read s.registers rs2 % 2 ^ 32) s) m
+      input output
   store_move at rs1 rs2 offset s m h stands first second near may =
       let a : ℕ = plus (read s.registers rs1) offset in
       let next : Machine = flat.stores (stored m.memory Word a (read s.registers rs2)) m in
       record {
         next = next;
-        is = step_quiet input output m next (turn_at decodes g start at (rv.Store Word rs1 rs2 offset) s m input given h stands
+        is = step_quiet input output m next (turn_at decodes g start at (rv.Store Word rs1 rs2 offset) s m input given h
+            stands
             (tt, source_small rs1 first, source_small rs2 second, near)
-            ∙ store_acts input m rs1 rs2 offset (read s.registers rs1) (read s.registers rs2) (h.shows.registers rs1 (source_small rs1 first)) (h.shows.registers rs2 (source_small rs2 second)));
-        way = way_stores g start at a (read s.registers rs2) s m given h (allowed_aligned g.writes a may) (allowed_right g.writes a may);
+            ∙ store_acts input m rs1 rs2 offset (read s.registers rs1) (read s.registers rs2)
+            (h.shows.registers rs1 (source_small rs1 first)) (h.shows.registers rs2 (source_small rs2 second)));
+        way = way_stores g start at a (read s.registers rs2) s m given h (allowed_aligned g.writes a may)
+            (allowed_right g.writes a may);
       }
 
   -- a jump to a place
@@ -221,7 +256,8 @@ module _ (decodes : (i : Instr) → IsFormed i → decoded (encoded i) ≡ Some 
       → IsWordAt start.memory (at % 2 ^ 32) (encoded (rv.Jal 0 distance)) → IsExtended 21 distance → distance % 4 ≡ 0
       → (at + distance) % 2 ^ 32 ≡ to % 2 ^ 32 → Moves g start to s m input output
   jump_move at to distance s m h stands near aligned e =
-      let here : at % 2 ^ 32 % 4 ≡ 0 = fetched_aligned start.memory (at % 2 ^ 32) (encoded (rv.Jal 0 distance)) stands.0 in
+      let here : at % 2 ^ 32 % 4 ≡ 0 = fetched_aligned start.memory (at % 2 ^ 32) (encoded (rv.Jal 0 distance))
+      stands.0 in
       let target : plus m.pc distance ≡ to % 2 ^ 32 = omega (arith, h.there, e) in
       let even : to % 2 ^ 32 % 4 ≡ 0 = omega (arith, e, here, aligned) in
       let next : Machine = record m { registers = slice_set m.registers 0 (behind m.pc); pc = to % 2 ^ 32 } in
@@ -235,28 +271,49 @@ module _ (decodes : (i : Instr) → IsFormed i → decoded (encoded i) ≡ Some 
 
   -- a branch over the next word
   pub taken_move : (at : ℕ) (c : Cond) (rs1 rs2 : ℕ) (s : View) (m : Machine) → OnWay g start at s m
-      → IsWordAt start.memory (at % 2 ^ 32) (encoded (rv.Branch c rs1 rs2 8)) → is_source rs1 ≡ true → is_source rs2 ≡ true
+      → IsWordAt start.memory (at % 2 ^ 32) (encoded (rv.Branch c rs1 rs2 8)) → is_source rs1 ≡ true
+      → is_source rs2 ≡ true
       → holds c rs1 rs2 s ≡ true → Moves g start (at + 4 + 4) s m input output
   taken_move at c rs1 rs2 s m h stands first second held =
-      let here : at % 2 ^ 32 % 4 ≡ 0 = fetched_aligned start.memory (at % 2 ^ 32) (encoded (rv.Branch c rs1 rs2 8)) stands.0 in
+      let here : at % 2 ^ 32 % 4 ≡ 0 = fetched_aligned start.memory (at % 2 ^ 32) (encoded (rv.Branch c rs1 rs2 8))
+      stands.0 in
       let target : plus m.pc 8 ≡ (at + 4 + 4) % 2 ^ 32 = omega (arith, h.there) in
       let even : (at + 4 + 4) % 2 ^ 32 % 4 ≡ 0 = omega (arith, here) in
       let next : Machine = record m { registers = slice_set m.registers 0 (behind m.pc); pc = (at + 4 + 4) % 2 ^ 32 } in
       record {
         next = next;
-        is = step_quiet input output m next (turn_at decodes g start at (rv.Branch c rs1 rs2 8) s m input given h stands
-            (source_small rs1 first, source_small rs2 second, record { word = omega arith; sign = omega arith }, omega arith)
-            ∙ taken_acts input m c rs1 rs2 ((at + 4 + 4) % 2 ^ 32) (rw (h.shows.registers rs1 (source_small rs1 first), h.shows.registers rs2 (source_small rs2 second)) held) target even);
+        is = step_quiet input output m next (turn_at decodes g start at
+            (rv.Branch c rs1 rs2 8) s m input given h stands (
+              source_small rs1 first,
+              source_small rs2 second,
+              record { word = omega arith; sign = omega arith },
+              omega
+                  arith,
+            )
+            ∙ taken_acts input m c rs1 rs2 ((at + 4 + 4) % 2 ^ 32)
+            (rw (h.shows.registers rs1 (source_small rs1 first), h.shows.registers rs2 (source_small rs2 second))
+            held) target even);
         way = way_jumps g start at (at + 4 + 4) (behind m.pc) s m h;
       }
 
   pub missed_move : (at : ℕ) (c : Cond) (rs1 rs2 : ℕ) (s : View) (m : Machine) → OnWay g start at s m
-      → IsWordAt start.memory (at % 2 ^ 32) (encoded (rv.Branch c rs1 rs2 8)) → is_source rs1 ≡ true → is_source rs2 ≡ true
+      → IsWordAt start.memory (at % 2 ^ 32) (encoded (rv.Branch c rs1 rs2 8)) → is_source rs1 ≡ true
+      → is_source rs2 ≡ true
       → holds c rs1 rs2 s ≡ false → Moves g start (at + 4) s m input output
   missed_move at c rs1 rs2 s m h stands first second held = record {
     next = flat.passes m;
-    is = step_quiet input output m (flat.passes m) (turn_at decodes g start at (rv.Branch c rs1 rs2 8) s m input given h stands
-        (source_small rs1 first, source_small rs2 second, record { word = omega arith; sign = omega arith }, omega arith)
-        ∙ missed_acts input m c rs1 rs2 (rw (h.shows.registers rs1 (source_small rs1 first), h.shows.registers rs2 (source_small rs2 second)) held));
+    is = step_quiet input output m (flat.passes m) (turn_at decodes g start at (rv.Branch c rs1 rs2 8) s m input given h
+        stands (
+          source_small rs1 first,
+          source_small rs2 second,
+          record { word = omega arith; sign = omega arith },
+          omega
+              arith,
+        )
+        ∙ missed_acts input m c rs1 rs2 (rw (
+          h.shows.registers rs1 (source_small rs1 first),
+          h.shows.registers rs2
+              (source_small rs2 second),
+        ) held));
     way = way_passes g start at s m h;
   }

@@ -1,5 +1,7 @@
 -- A machine on its way through code: it shows a view, and all else is as at the start.
-use Rattle.std.proofs.Common.{◌≡◌, ◌≢◌, ℕ, zero, suc, ◌+◌, ◌*◌, ◌/◌, ◌%◌, ◌^◌, ◌<◌, List, Bool, true, false, cond, ◌&&◌, length, map, refl, ap, sym, ◌∙◌, arith, inl, inr, length-set, get_or-set_same, get_or-set_other}
+use Rattle.std.proofs.Common.{◌≡◌, ◌≢◌, ℕ, zero, suc, ◌+◌, ◌*◌, ◌/◌, ◌%◌, ◌^◌, ◌<◌, List, Bool, true, false, cond, ◌&&◌}
+use Rattle.std.proofs.Common.{length, map, refl, ap, sym, ◌∙◌, arith, inl, inr, length-set, get_or-set_same}
+use Rattle.std.proofs.Common.{get_or-set_other}
 use Rattle.std.specs.Prelude.{Some, None, is_some, nat_eq, ◌==◌, slice_index, slice_set}
 use Rattle.std.proofs.lemmas.Bool.Decides.{nat_tests}
 use Rattle.rv_isa.specs.declared.Width.TheVariants.{Word}
@@ -42,19 +44,23 @@ pub register_is : (m : Machine) (r : ℕ) → register m (suc r) ≡ slice_index
 register_is m r = let other : nat_eq (suc r) 0 ≡ false = grind (arith, nat_tests) in rw other refl
 
 -- the bytes of a word that may be written can be stored to
-pub stored_storable : (memory : List Range) (a v : ℕ) → is_some (stored memory Word a v) ≡ true → can_store memory a 4 ≡ true
+pub stored_storable : (memory : List Range) (a v : ℕ) → is_some (stored memory Word a v) ≡ true
+    → can_store memory a 4 ≡ true
 unfolding stored
 stored_storable memory a v h = at ((a % 4 == 0) && can_store memory a 4) refl h
   where
-    at : (t : Bool) → ((a % 4 == 0) && can_store memory a 4) ≡ t → is_some (cond t (Some (put_bytes memory a (low_bytes 4 v))) None) ≡ true → can_store memory a 4 ≡ true
+    at : (t : Bool) → ((a % 4 == 0) && can_store memory a 4) ≡ t
+        → is_some (cond t (Some (put_bytes memory a (low_bytes 4 v))) None) ≡ true → can_store memory a 4 ≡ true
     at true e h = and_second (a % 4 == 0) (can_store memory a 4) e
     at false e h = absurd (cc)
 
-pub storable : (memory : List Range) (g : Rights) (a : ℕ) → HasRights memory g → a % 4 ≡ 0 → g.writes a ≡ true → can_store memory a 4 ≡ true
+pub storable : (memory : List Range) (g : Rights) (a : ℕ) → HasRights memory g → a % 4 ≡ 0 → g.writes a ≡ true
+    → can_store memory a 4 ≡ true
 storable memory g a given aligned h = stored_storable memory a 0 (given a aligned h).0
 
 -- a byte that can't be stored to stays, and so does code
-module _ (g : Rights) (s : View) (before after : List Range) (given : HasRights before g) (bytes : (a : ℕ) → a % 4 ≡ 0 → IsWordKept g s before after a) where
+module _ (g : Rights) (s : View) (before after : List Range) (given : HasRights before g)
+    (bytes : (a : ℕ) → a % 4 ≡ 0 → IsWordKept g s before after a) where
   byte_stays : (k : ℕ) → allows_store (range_at before k) ≡ false → byte_of after k ≡ byte_of before k
   byte_stays k fixed = by aligned (bytes (k / 4 * 4) aligned)
     where
@@ -69,19 +75,23 @@ module _ (g : Rights) (s : View) (before after : List Range) (given : HasRights 
           each_passes (λ x. allows_store (range_at before x)) (k / 4 * 4) 4 all k (omega arith) (omega arith) in
           absurd (cc)
 
-  pub code_stays : (place w : ℕ) → map shape_of after ≡ map shape_of before → IsWordAt before place w → fetched after place ≡ Some w
+  pub code_stays : (place w : ℕ) → map shape_of after ≡ map shape_of before → IsWordAt before place w
+      → fetched after place ≡ Some w
   code_stays place w shape stands =
       fetched_same after before place shape (λ k low high. byte_stays k (stands.1 k low high)) ∙ stands.0
 
 -- the turn of an instruction that stands at the machine's place
-pub turn_at : (decodes : (i : Instr) → IsFormed i → decoded (encoded i) ≡ Some i) (g : Rights) (start : Machine) (at : ℕ) (i : Instr) (s : View) (m : Machine) (input : List ℕ)
+pub turn_at : (decodes : (i : Instr) → IsFormed i → decoded (encoded i) ≡ Some i) (g : Rights) (start : Machine)
+    (at : ℕ) (i : Instr) (s : View) (m : Machine) (input : List ℕ)
     → HasRights start.memory g → OnWay g start at s m → IsWordAt start.memory (at % 2 ^ 32) (encoded i) → IsFormed i
     → turn input m ≡ executes input (Some i) m
 turn_at decodes g start at i s m input given h stands formed =
-    turn_is input m (encoded i) i h.running (rw h.there (code_stays g s start.memory m.memory given h.bytes (at % 2 ^ 32) (encoded i) h.shape stands)) (decodes i formed)
+    turn_is input m (encoded i) i h.running (rw h.there (code_stays g s start.memory m.memory given h.bytes
+    (at % 2 ^ 32) (encoded i) h.shape stands)) (decodes i formed)
 
 -- the cost isn't seen
-pub way_tested : (g : Rights) (start : Machine) (at : ℕ) (s : View) (m : Machine) → OnWay g start at s m → OnWay g start at (tested s) m
+pub way_tested : (g : Rights) (start : Machine) (at : ℕ) (s : View) (m : Machine) → OnWay g start at s m
+    → OnWay g start at (tested s) m
 way_tested g start at s m h = record {
   running = h.running;
   there = h.there;
@@ -93,7 +103,8 @@ way_tested g start at s m h = record {
 }
 
 -- a register that the code gives
-pub way_gives : (g : Rights) (start : Machine) (at rd v : ℕ) (s : View) (m : Machine) → OnWay g start at s m → is_target rd ≡ true
+pub way_gives : (g : Rights) (start : Machine) (at rd v : ℕ) (s : View) (m : Machine) → OnWay g start at s m
+    → is_target rd ≡ true
     → OnWay g start (at + 4) (with_register rd v s) (flat.gives rd v m)
 way_gives g start at rd v s m h target = record {
   running = h.running;
@@ -143,14 +154,16 @@ way_jumps g start at to v s m h = record {
   bytes = h.bytes;
 }
   where
-    registers : (r : ℕ) → r < 32 → register (record m { registers = slice_set m.registers 0 v; pc = to % 2 ^ 32 }) r ≡ read s.registers r
+    registers : (r : ℕ) → r < 32 → register (record m { registers = slice_set m.registers 0 v; pc = to % 2 ^ 32 }) r
+        ≡ read s.registers r
     registers zero small = refl
     registers (suc r) small =
         let other : suc r ≢ 0 = omega arith in
         register_is (record m { registers = slice_set m.registers 0 v; pc = to % 2 ^ 32 }) r
         ∙ (get_or-set_other m.registers 0 (suc r) v 0 other ∙ (sym (register_is m r) ∙ h.shows.registers (suc r) small))
 
-    others : (r : ℕ) → is_target r ≡ false → register (record m { registers = slice_set m.registers 0 v; pc = to % 2 ^ 32 }) r ≡ register start r
+    others : (r : ℕ) → is_target r ≡ false → register (record m
+        { registers = slice_set m.registers 0 v; pc = to % 2 ^ 32 }) r ≡ register start r
     others zero free = refl
     others (suc r) free =
         let other : suc r ≢ 0 = omega arith in
@@ -158,7 +171,8 @@ way_jumps g start at to v s m h = record {
         ∙ (get_or-set_other m.registers 0 (suc r) v 0 other ∙ (sym (register_is m r) ∙ h.others (suc r) free))
 
 -- a branch that isn't taken
-pub way_passes : (g : Rights) (start : Machine) (at : ℕ) (s : View) (m : Machine) → OnWay g start at s m → OnWay g start (at + 4) s (flat.passes m)
+pub way_passes : (g : Rights) (start : Machine) (at : ℕ) (s : View) (m : Machine) → OnWay g start at s m
+    → OnWay g start (at + 4) s (flat.passes m)
 way_passes g start at s m h = record {
   running = h.running;
   there = let next : behind (at % 2 ^ 32) ≡ (at + 4) % 2 ^ 32 = omega arith in ap behind h.there ∙ next;

@@ -27,7 +27,8 @@ module _ (g : Rights) (w : ℕ) (Q : View → Type 0) (r m : ℕ → ℕ) (c : �
   unfolding frag_run
   skip_ends h = record { state = view r m c; is = refl; has = h }
 
-  pub set_ends : (rd value v : ℕ) → value % 2 ^ 32 ≡ v → Q (view (put r rd v) m (c + 3)) → Ends (frag_run g (Set rd value) w (view r m c)) Q
+  pub set_ends : (rd value v : ℕ) → value % 2 ^ 32 ≡ v → Q (view (put r rd v) m (c + 3))
+      → Ends (frag_run g (Set rd value) w (view r m c)) Q
   unfolding frag_run
   set_ends rd value v e h =
       record { state = view (put r rd v) m (c + 3); is = ap (λ x. Some (view (put r rd x) m (c + 3))) e; has = h }
@@ -50,7 +51,8 @@ module _ (g : Rights) (w : ℕ) (Q : View → Type 0) (r m : ℕ → ℕ) (c : �
   load_ends rd rs1 offset a v place aligned may e h =
       record { state = view (put r rd v) m (c + 3); is = rw (place, allowed g.reads a aligned may, e) refl; has = h }
 
-  pub store_ends : (rs1 rs2 offset a v : ℕ) → plus (read r rs1) offset ≡ a → a % 4 ≡ 0 → g.writes a ≡ true → read r rs2 % 2 ^ 32 ≡ v
+  pub store_ends : (rs1 rs2 offset a v : ℕ) → plus (read r rs1) offset ≡ a → a % 4 ≡ 0 → g.writes a ≡ true
+      → read r rs2 % 2 ^ 32 ≡ v
       → Q (view r (put m a v) (c + 3)) → Ends (frag_run g (Store rs1 rs2 offset) w (view r m c)) Q
   unfolding frag_run
   store_ends rs1 rs2 offset a v place aligned may e h =
@@ -67,12 +69,14 @@ module _ (g : Rights) (w : ℕ) (Q : View → Type 0) (r m : ℕ → ℕ) (c : �
 
   -- a choice, whose test is known or not
   pub if_taken : (cond : Cond) (rs1 rs2 : ℕ) (taken other : Fragment) → is_held cond (read r rs1) (read r rs2) ≡ true
-      → Ends (frag_run g taken w (view r m (c + 3))) Q → Ends (frag_run g (If cond rs1 rs2 taken other) w (view r m c)) Q
+      → Ends (frag_run g taken w (view r m (c + 3))) Q → Ends (frag_run g (If cond rs1 rs2 taken other) w (view r m c))
+      Q
   unfolding frag_run
   if_taken cond rs1 rs2 taken other held h = record { state = h.state; is = rw held h.is; has = h.has }
 
   pub if_other : (cond : Cond) (rs1 rs2 : ℕ) (taken other : Fragment) → is_held cond (read r rs1) (read r rs2) ≡ false
-      → Ends (frag_run g other w (view r m (c + 3))) Q → Ends (frag_run g (If cond rs1 rs2 taken other) w (view r m c)) Q
+      → Ends (frag_run g other w (view r m (c + 3))) Q → Ends (frag_run g (If cond rs1 rs2 taken other) w (view r m c))
+      Q
   unfolding frag_run
   if_other cond rs1 rs2 taken other held h = record { state = h.state; is = rw held h.is; has = h.has }
 
@@ -82,7 +86,8 @@ module _ (g : Rights) (w : ℕ) (Q : View → Type 0) (r m : ℕ → ℕ) (c : �
       → Ends (frag_run g (If cond rs1 rs2 taken other) w (view r m c)) Q
   if_ends cond rs1 rs2 taken other h k = by (is_held cond (read r rs1) (read r rs2)) refl
     where
-      by : (t : Bool) → is_held cond (read r rs1) (read r rs2) ≡ t → Ends (frag_run g (If cond rs1 rs2 taken other) w (view r m c)) Q
+      by : (t : Bool) → is_held cond (read r rs1) (read r rs2) ≡ t
+          → Ends (frag_run g (If cond rs1 rs2 taken other) w (view r m c)) Q
       by true held = if_taken cond rs1 rs2 taken other held (h held)
       by false held = if_other cond rs1 rs2 taken other held (k held)
 
@@ -104,25 +109,30 @@ module _ (g : Rights) (w : ℕ) (Q : View → Type 0) (r m : ℕ → ℕ) (c : �
       then_ends (Set rd value) (put r rd v) m (c + 3) (ap (λ x. Some (view (put r rd x) m (c + 3))) e) h
 
   pub compute_then : (op : Op) (rd rs1 rs2 v : ℕ) → computed op (read r rs1) (read r rs2) ≡ v
-      → Ends (frag_run g rest w (view (put r rd v) m (c + 3))) Q → Ends (frag_run g (Seq (Compute op rd rs1 rs2) rest) w (view r m c)) Q
+      → Ends (frag_run g rest w (view (put r rd v) m (c + 3))) Q
+      → Ends (frag_run g (Seq (Compute op rd rs1 rs2) rest) w (view r m c)) Q
   unfolding frag_run
   compute_then op rd rs1 rs2 v e h =
       then_ends (Compute op rd rs1 rs2) (put r rd v) m (c + 3) (ap (λ x. Some (view (put r rd x) m (c + 3))) e) h
 
   pub imm_then : (op : Op) (rd rs1 imm v : ℕ) → computed op (read r rs1) (imm % 2 ^ 32) ≡ v
-      → Ends (frag_run g rest w (view (put r rd v) m (c + 3))) Q → Ends (frag_run g (Seq (Imm op rd rs1 imm) rest) w (view r m c)) Q
+      → Ends (frag_run g rest w (view (put r rd v) m (c + 3))) Q
+      → Ends (frag_run g (Seq (Imm op rd rs1 imm) rest) w (view r m c)) Q
   unfolding frag_run
   imm_then op rd rs1 imm v e h =
       then_ends (Imm op rd rs1 imm) (put r rd v) m (c + 3) (ap (λ x. Some (view (put r rd x) m (c + 3))) e) h
 
   pub load_then : (rd rs1 offset a v : ℕ) → plus (read r rs1) offset ≡ a → a % 4 ≡ 0 → g.reads a ≡ true → m a ≡ v
-      → Ends (frag_run g rest w (view (put r rd v) m (c + 3))) Q → Ends (frag_run g (Seq (Load rd rs1 offset) rest) w (view r m c)) Q
+      → Ends (frag_run g rest w (view (put r rd v) m (c + 3))) Q
+      → Ends (frag_run g (Seq (Load rd rs1 offset) rest) w (view r m c)) Q
   unfolding frag_run
   load_then rd rs1 offset a v place aligned may e h =
       then_ends (Load rd rs1 offset) (put r rd v) m (c + 3) (rw (place, allowed g.reads a aligned may, e) refl) h
 
-  pub store_then : (rs1 rs2 offset a v : ℕ) → plus (read r rs1) offset ≡ a → a % 4 ≡ 0 → g.writes a ≡ true → read r rs2 % 2 ^ 32 ≡ v
-      → Ends (frag_run g rest w (view r (put m a v) (c + 3))) Q → Ends (frag_run g (Seq (Store rs1 rs2 offset) rest) w (view r m c)) Q
+  pub store_then : (rs1 rs2 offset a v : ℕ) → plus (read r rs1) offset ≡ a → a % 4 ≡ 0 → g.writes a ≡ true
+      → read r rs2 % 2 ^ 32 ≡ v
+      → Ends (frag_run g rest w (view r (put m a v) (c + 3))) Q
+      → Ends (frag_run g (Seq (Store rs1 rs2 offset) rest) w (view r m c)) Q
   unfolding frag_run
   store_then rs1 rs2 offset a v place aligned may e h =
       then_ends (Store rs1 rs2 offset) r (put m a v) (c + 3) (rw (place, allowed g.writes a aligned may, e) refl) h

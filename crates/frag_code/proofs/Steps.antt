@@ -1,5 +1,6 @@
 -- Steps of a running machine.
-use Rattle.std.proofs.Common.{◌≡◌, ℕ, zero, suc, ◌+◌, ◌%◌, List, Bool, true, false, ◌&&◌, cond, refl, ap, arith, append-nil}
+use Rattle.std.proofs.Common.{◌≡◌, ℕ, zero, suc, ◌+◌, ◌%◌, List, Bool, true, false, ◌&&◌, cond, refl, ap, arith}
+use Rattle.std.proofs.Common.{append-nil}
 use Rattle.std.specs.Prelude.{Some, None, option_map, ◌==◌}
 use Rattle.std.proofs.lemmas.Bool.Decides.{nat_tests}
 use Rattle.rv_isa.specs.declared.Instr.{Instr}
@@ -19,12 +20,14 @@ abbrev pub state : Machine → List ℕ → List ℕ → State
 state m input output = record { machine = m; input = input; output = output }
 
 -- a running machine's turn is that of the fetched word's instruction
-pub turn_is : (input : List ℕ) (m : Machine) (w : ℕ) (i : Instr) → m.ending ≡ Running → fetched m.memory m.pc ≡ Some w → decoded w ≡ Some i
+pub turn_is : (input : List ℕ) (m : Machine) (w : ℕ) (i : Instr) → m.ending ≡ Running → fetched m.memory m.pc ≡ Some w
+    → decoded w ≡ Some i
     → turn input m ≡ executes input (Some i) m
 unfolding turn
 turn_is input m w i run e d = rw (run, e, d) refl
 
-pub step_quiet : (input output : List ℕ) (m next : Machine) → turn input m ≡ quiet input next → step (state m input output) ≡ state next input output
+pub step_quiet : (input output : List ℕ) (m next : Machine) → turn input m ≡ quiet input next
+    → step (state m input output) ≡ state next input output
 unfolding step
 step_quiet input output m next e = rw (e, append-nil output) refl
 
@@ -40,6 +43,7 @@ fetched_aligned memory a w e = at ((a % 4 == 0) && all_from (λ k. allows_fetch 
     at : (v : Bool) → ((a % 4 == 0) && all_from (λ k. allows_fetch (range_at memory k)) a 4) ≡ v
         → cond v (option_map number_of (bytes_from memory a 4)) None ≡ Some w → a % 4 ≡ 0
     at true t e =
-        let first : (a % 4 == 0) ≡ true = and_first (a % 4 == 0) (all_from (λ k. allows_fetch (range_at memory k)) a 4) t in
+        let first : (a % 4 == 0) ≡ true = and_first (a % 4 == 0) (all_from (λ k. allows_fetch (range_at memory k)) a 4)
+        t in
         grind (arith, nat_tests)
     at false t e = absurd (cc)

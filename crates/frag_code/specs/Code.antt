@@ -18,7 +18,8 @@ if_code cond rs1 rs2 taken other =
 -- a branch over the jump to the end, that jump, the body, and a jump back to the branch
 abbrev pub while_code : Cond → ℕ → ℕ → List Instr → List Instr
 while_code cond rs1 rs2 body =
-    rv.Branch cond rs1 rs2 8 ∷ rv.Jal 0 (4 * (length body + 2)) ∷ (body ++ rv.Jal 0 (2 ^ 32 - 4 * (length body + 2)) ∷ [])
+    rv.Branch cond rs1 rs2 8 ∷ rv.Jal 0 (4 * (length body + 2))
+    ∷ (body ++ rv.Jal 0 (2 ^ 32 - 4 * (length body + 2)) ∷ [])
 
 unfoldable pub instructions_of : Fragment → List Instr
 instructions_of Skip = []

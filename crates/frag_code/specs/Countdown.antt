@@ -21,7 +21,13 @@ countdown_words =
 abbrev pub countdown_start : State
 countdown_start = record {
   machine = record {
-    memory = record { start = 0x10000; writable = false; executable = true; bytes = flat_map (low_bytes 4) countdown_words } ∷ [];
+    memory = record {
+      start = 0x10000;
+      writable = false;
+      executable = true;
+      bytes =
+          flat_map (low_bytes 4) countdown_words;
+    } ∷ [];
     registers = start_registers;
     pc = 0x10000;
     ending = Running;

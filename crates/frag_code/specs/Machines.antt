@@ -1,6 +1,7 @@
 -- What a fragment's code does on the flat machine: what the fragment does with the machine's registers
 -- and words.
-use Rattle.std.specs.Prelude.{◌≡◌, ◌⊎◌, ℕ, ◌+◌, ◌-◌, ◌*◌, ◌%◌, ◌^◌, ◌<◌, ◌≤◌, List, [], ◌∷◌, true, false, Some, is_some, unwrap_or, length, map}
+use Rattle.std.specs.Prelude.{◌≡◌, ◌⊎◌, ℕ, ◌+◌, ◌-◌, ◌*◌, ◌%◌, ◌^◌, ◌<◌, ◌≤◌, List, [], ◌∷◌, true, false, Some, is_some}
+use Rattle.std.specs.Prelude.{unwrap_or, length, map}
 use Rattle.rv_isa.specs.declared.Width.TheVariants.{Word}
 use Rattle.machine_spec.specs.declared.Ending.TheVariants.{Running}
 use Rattle.machine_spec.specs.Memory.{Range, shape_of, range_at, byte_of}
@@ -32,7 +33,8 @@ pub record BeginsAt (code : List ℕ) (m : Machine) : Type 0 where
 
 -- memory gives these rights; what may be written may be read, so that a written word is seen
 abbrev pub HasRights : List Range → Rights → Type 0
-HasRights memory g = (a : ℕ) → a % 4 ≡ 0 → g.writes a ≡ true → (is_some (stored memory Word a 0) ≡ true) × (g.reads a ≡ true)
+HasRights memory g = (a : ℕ) → a % 4 ≡ 0 → g.writes a ≡ true → (is_some (stored memory Word a 0) ≡ true)
+    × (g.reads a ≡ true)
 
 -- a view's registers are the machine's, and so are its words wherever they may be read
 pub record Shows (g : Rights) (s : View) (m : Machine) : Type 0 where
@@ -61,7 +63,8 @@ pub record Arrives (g : Rights) (s : View) (place most : ℕ) (m : Machine) (inp
   pub after : Machine
   pub count : ℕ
   pub within : count ≤ most
-  pub run : steps count (record { machine = m; input = input; output = output }) ≡ record { machine = after; input = input; output = output }
+  pub run : steps count (record { machine = m; input = input; output = output })
+      ≡ record { machine = after; input = input; output = output }
   pub running : after.ending ≡ Running
   pub there : after.pc ≡ place
   pub shows : Shows g s after

@@ -1,6 +1,7 @@
 -- What a fragment does with registers and words of memory, and what it costs. Nothing here speaks of
 -- instructions.
-use Rattle.std.specs.Prelude.{ℕ, zero, suc, ◌+◌, ◌%◌, ◌^◌, ◌==◌, ◌&&◌, Bool, Option, Some, None, option_and_then, if◌then◌else◌}
+use Rattle.std.specs.Prelude.{ℕ, zero, suc, ◌+◌, ◌%◌, ◌^◌, ◌==◌, ◌&&◌, Bool, Option, Some, None, option_and_then}
+use Rattle.std.specs.Prelude.{if◌then◌else◌}
 use Rattle.rv_isa.specs.declared.Cond.{Cond}
 use Rattle.rv_isa.specs.Compute.{computed, is_held}
 use Rattle.rv_isa.specs.Addresses.{plus}
@@ -54,7 +55,8 @@ turns (suc n) test body s =
 unfoldable pub frag_run : Rights → Fragment → ℕ → View → Option View
 frag_run g Skip w s = Some s
 frag_run g (Set rd value) w s = Some (with_register rd (value % 2 ^ 32) s)
-frag_run g (Compute op rd rs1 rs2) w s = Some (with_register rd (computed op (read s.registers rs1) (read s.registers rs2)) s)
+frag_run g (Compute op rd rs1 rs2) w s = Some (with_register rd
+    (computed op (read s.registers rs1) (read s.registers rs2)) s)
 frag_run g (Imm op rd rs1 imm) w s = Some (with_register rd (computed op (read s.registers rs1) (imm % 2 ^ 32)) s)
 frag_run g (Load rd rs1 offset) w s =
     let a : ℕ = plus (read s.registers rs1) offset in

@@ -106,7 +106,8 @@ fn emit(code: &mut Vec<u32>, f: &Frag) -> Result<(), AllocError>
 /// The two words that set a register to a value.
 fn emit_set(code: &mut Vec<u32>, rd: u8, value: u32) -> Result<(), AllocError>
     requires { rd < 32 }
-    ensures { OnOk result (code.new.items ≡ code.old.items ++ encoded (Instr.Lui rd (split_of value).0) ∷ encoded (Instr.OpImm Op.Add rd rd (split_of value).1) ∷ []) }
+    ensures { OnOk result (code.new.items ≡ code.old.items ++ encoded (Instr.Lui rd (split_of value).0)
+        ∷ encoded (Instr.OpImm Op.Add rd rd (split_of value).1) ∷ []) }
 {
     let (upper, lower) = split(value);
     put(code, Instr::Lui { rd, imm: upper })?;
@@ -125,7 +126,8 @@ fn emit_set(code: &mut Vec<u32>, rd: u8, value: u32) -> Result<(), AllocError>
 fn put_test(code: &mut Vec<u32>, cond: Cond, rs1: u8, rs2: u8, words: u32) -> Result<(), AllocError>
     requires sources { (rs1 < 32) × (rs2 < 32) }
     requires near { words ≤ 4098 }
-    ensures { OnOk result (code.new.items ≡ code.old.items ++ encoded (Instr.Branch cond rs1 rs2 8) ∷ encoded (Instr.Jal 0 (4 * words)) ∷ []) }
+    ensures { OnOk result (code.new.items ≡ code.old.items ++ encoded (Instr.Branch cond rs1 rs2 8)
+        ∷ encoded (Instr.Jal 0 (4 * words)) ∷ []) }
 {
     put(
         code,

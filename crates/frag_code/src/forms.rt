@@ -96,7 +96,8 @@ fn is_near(offset: u32) -> bool
 /// What is left of so many words behind the fragment's, where there are enough.
 #[tactic(auto, unfolding(crate::specs::Code::instructions_of))]
 fn left_behind(f: &Frag, room: u32) -> Option<u32>
-    ensures { SomeIff result (length (instructions_of (plain f.now)) ≤ room) (room - length (instructions_of (plain f.now))) }
+    ensures { SomeIff result (length (instructions_of (plain f.now)) ≤ room)
+        (room - length (instructions_of (plain f.now))) }
 {
     match f {
         Frag::Skip => Some(room),

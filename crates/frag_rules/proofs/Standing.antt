@@ -1,5 +1,6 @@
 -- Words that stand in a range of code stand where they can be run.
-use Rattle.std.proofs.Common.{◌≡◌, ℕ, zero, suc, ◌+◌, ◌*◌, ◌%◌, ◌^◌, ◌<◌, ◌≤◌, List, [], ◌∷◌, Bool, true, false, ◌&&◌, cond, length, refl, ◌∙◌, subst, ap, arith}
+use Rattle.std.proofs.Common.{◌≡◌, ℕ, zero, suc, ◌+◌, ◌*◌, ◌%◌, ◌^◌, ◌<◌, ◌≤◌, List, [], ◌∷◌, Bool, true, false, ◌&&◌}
+use Rattle.std.proofs.Common.{cond, length, refl, ◌∙◌, subst, ap, arith}
 use Rattle.std.specs.Prelude.{Some, None, ◌==◌, option_map, slice_index}
 use Rattle.rv_isa.specs.declared.Width.TheVariants.{Word}
 use Rattle.machine_spec.specs.Memory.{Range, range_at, all_from}

@@ -1,5 +1,6 @@
 -- The quotients of the density are whole, small, and fall where no edge joins a candidate to its group.
-use Rattle.std.proofs.Common.{◌≡◌, ℕ, suc, zero, nat_le, ◌&&◌, ◌+◌, ◌-◌, ◌*◌, ◌/◌, ◌^◌, ◌<◌, ◌≤◌, ◌≢◌, ◌==◌, Bool, true, ◌||◌, max, refl, sym, ◌∙◌, ap, arith}
+use Rattle.std.proofs.Common.{◌≡◌, ℕ, suc, zero, nat_le, ◌&&◌, ◌+◌, ◌-◌, ◌*◌, ◌/◌, ◌^◌, ◌<◌, ◌≤◌, ◌≢◌, ◌==◌, Bool, true}
+use Rattle.std.proofs.Common.{◌||◌, max, refl, sym, ◌∙◌, ap, arith}
 use mir.Val.{bool_byte}
 use lib.Dec.{ltb}
 use Rattle.std.proofs.Math.Nat.{mul-div_cancel, mul-le-mul_left, mul-le-mul_right, le_of_mul-le-mul_right, div-le_self}
@@ -8,7 +9,8 @@ use Rattle.std.proofs.lemmas.Bool.{agree_below_at}
 use Rattle.std.proofs.lemmas.Bool.Decides.{nat_tests}
 use Rattle.group_policy.specs.declared.cut.Cut.{Cut}
 use Rattle.group_policy.specs.Cuts.{InRange, IsFair}
-use Rattle.group_policy.specs.Densities.{scale, score_of, own_loop, group_places, node_places, joined_places, joined_weight, density_of, IsWhole, QuotientsAreWhole}
+use Rattle.group_policy.specs.Densities.{scale, score_of, own_loop, group_places, node_places, joined_places}
+use Rattle.group_policy.specs.Densities.{joined_weight, density_of, IsWhole, QuotientsAreWhole}
 
 -- each number up to 36 divides the scale
 is_divisor : ℕ → Bool
@@ -66,7 +68,13 @@ pub few_pairs : (n : ℕ) → 1 ≤ n → n ≤ 7 → FewPairs n
 unfolding are_few_pairs
 few_pairs n some few = let below : n < 8 = omega arith in
     let holds : are_few_pairs n ≡ true = agree_below_at are_few_pairs (λ _. true) 8 n refl below in
-    record { more = grind (arith, nat_tests); some = grind (arith, nat_tests); few = grind (arith, nat_tests); room = grind (arith, nat_tests) }
+    record {
+      more = grind (arith, nat_tests);
+      some = grind (arith, nat_tests);
+      few = grind (arith, nat_tests);
+      room =
+          grind (arith, nat_tests);
+    }
 
 pub own_small : (l : ℕ) → own_loop l ≤ 1
 own_small zero = omega arith

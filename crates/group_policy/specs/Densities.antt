@@ -38,7 +38,8 @@ joined_weight cut = cut.weight + cut.node_loop + cut.cross
 unfoldable pub density_of : Cut → ℤ
 density_of cut =
     pos (1000 * score_of (joined_weight cut) (joined_places cut))
-    -ℤ pos ((1000 - cut.tolerance) * max (score_of cut.weight (group_places cut)) (score_of cut.node_loop (node_places cut)))
+    -ℤ pos ((1000 - cut.tolerance) * max (score_of cut.weight (group_places cut))
+    (score_of cut.node_loop (node_places cut)))
 
 -- a quotient is whole: times its divisor it is what was divided
 abbrev pub IsWhole : ℕ → ℕ → Type 0

@@ -13,13 +13,21 @@ module _ (says : ℕ → ℤ → Type 0) (outside : ℕ → Type 0) where
   pub best_skip : (n : ℕ) (best : Option Choice) → (outside n → ⊥) → IsBest says outside n best →
       IsBest says outside (n + 1) best
   best_skip n None busy is = λ y h o.
-      elim (cases_eq y n) [ inl same ↦ absurd (busy (subst outside same o)) | inr other ↦ is y (omega (arith, h, other)) o ]
+      elim (cases_eq y n) [
+        | inl same ↦ absurd (busy (subst outside same o))
+        | inr other ↦ is y (omega (arith, h, other))
+            o
+      ]
   best_skip n (Some best) busy is = (
     omega (arith, is.0),
     is.1,
     is.2,
     λ y h o ne.
-        elim (cases_eq y n) [ inl same ↦ absurd (busy (subst outside same o)) | inr other ↦ is.3 y (omega (arith, h, other)) o ne ],
+        elim (cases_eq y n) [
+          | inl same ↦ absurd (busy (subst outside same o))
+          | inr other ↦ is.3 y
+              (omega (arith, h, other)) o ne
+        ],
   )
 
   pub best_more : (n : ℕ) (best : Option Choice) (answer : ℤ) → outside n → says n answer → IsBest says outside n best →
@@ -32,7 +40,13 @@ module _ (says : ℕ → ℤ → Type 0) (outside : ℕ → Type 0) where
       is.2,
       λ y h p ne.
           elim (cases_eq y n) [
-            | inl same ↦ (answer, subst (λ z. says z answer) (sym same) s, grind (arith, ints), λ before. absurd (omega (arith, before, same, is.0)))
+            | inl same ↦ (
+              answer,
+              subst (λ z. says z answer) (sym same) s,
+              grind (arith, ints),
+              λ before. absurd
+                  (omega (arith, before, same, is.0)),
+            )
             | inr other ↦ is.3 y (omega (arith, h, other)) p ne
           ],
     )
@@ -42,7 +56,13 @@ module _ (says : ℕ → ℤ → Type 0) (outside : ℕ → Type 0) where
       s,
       λ y h p ne.
           elim (cases_eq y best.context) [
-            | inl same ↦ (best.answer, subst (λ z. says z best.answer) (sym same) is.2, grind (arith, ints), λ before. grind (arith, ints))
+            | inl same ↦ (
+              best.answer,
+              subst (λ z. says z best.answer) (sym same) is.2,
+              grind (arith, ints),
+              λ before.
+                  grind (arith, ints),
+            )
             | inr other ↦
                 let rest = is.3 y (omega (arith, h, ne)) p other in
                 let below : rest.0 ≤ℤ best.answer = rest.2 in

@@ -1,5 +1,6 @@
 -- Groups made greedily are connected: by what is kept of a rule, a context without an edge to the group never joins.
-use Rattle.std.proofs.Common.{◌≡◌, ◌⊎◌, ℕ, ℤ, ◌<◌, ◌≤◌, ◌==◌, true, List, [], ◌∷◌, length, refl, sym, ◌∙◌, ap, subst, inl, inr, arith, All, nat_le, Result, Ok, Err, IfOk}
+use Rattle.std.proofs.Common.{◌≡◌, ◌⊎◌, ℕ, ℤ, ◌<◌, ◌≤◌, ◌==◌, true, List, [], ◌∷◌, length, refl, sym, ◌∙◌, ap, subst}
+use Rattle.std.proofs.Common.{inl, inr, arith, All, nat_le, Result, Ok, Err, IfOk}
 use Rattle.std.specs.List.{Contains}
 use Rattle.std.proofs.lemmas.Bool.{cases_eq, leb-true, eqb-true, or_cases, or_left, or_right, eq-eqb}
 use Rattle.std.proofs.lemmas.Bool.Decides.{nat_tests}
@@ -55,9 +56,11 @@ pub connected_with : (edges : List Edge) (group : List ℕ) (x : ℕ) → IsConn
     0 < weight_across edges x group → IsConnected edges (with_member x group)
 connected_with edges group x connected above =
     let m = joined_member edges x group above in
-    let new : is_in (with_member x group) x ≡ true = in_with group x x ∙ or_right (is_in group x) (x == x) (eq-eqb x x refl) in
+    let new : is_in (with_member x group) x ≡ true = in_with group x x
+    ∙ or_right (is_in group x) (x == x) (eq-eqb x x refl) in
     let old : is_in (with_member x group) m.0 ≡ true = in_with group x m.0 ∙ or_left (is_in group m.0) (x == m.0) m.1 in
-    let to_new : Leads edges (with_member x group) m.0 x = along m.0 x here new (omega (arith, m.2, symmetric edges x m.0)) in
+    let to_new : Leads edges (with_member x group) m.0 x = along m.0 x here new
+    (omega (arith, m.2, symmetric edges x m.0)) in
     let from_new : Leads edges (with_member x group) x m.0 = along x m.0 here old m.2 in
     λ a b in_a in_b. elim (in_with_cases group x a in_a) [
       | inl a_old ↦ elim (in_with_cases group x b in_b) [
@@ -76,7 +79,8 @@ pub between_ends : (e : Edge) → is_between e.low e.high e ≡ true
 between_ends e = grind (arith, nat_tests)
 
 -- the weight between the ends of an edge
-pub edge_weighs : (edges : List Edge) (e : Edge) → Contains edges e → 0 < e.weight → 0 < weight_between edges e.low e.high
+pub edge_weighs : (edges : List Edge) (e : Edge) → Contains edges e → 0 < e.weight
+    → 0 < weight_between edges e.low e.high
 edge_weighs edges e there some =
     let least = get_or-le-sum_by (part e.low e.high) edges there.0 e there.1 in
     let one = part_there e.low e.high e (between_ends e) in
@@ -118,9 +122,11 @@ module _ (answers : Cut → ℤ → Type 0) (tolerance contexts : ℕ) (edges : 
     | inr above ↦ omega (arith, above)
   ]
 
-  pub grown_connected : (groups : List (List ℕ)) (group : List ℕ) → Grown answers tolerance contexts edges groups group →
+  pub grown_connected : (groups : List (List ℕ)) (group : List ℕ) → Grown answers tolerance contexts edges groups group
+      →
       IsConnected edges group
-  grown_connected groups group (started e starts) = let joins = All-contains (Joins contexts) edges e are.joins starts.there in
+  grown_connected groups group (started e starts) = let joins =
+      All-contains (Joins contexts) edges e are.joins starts.there in
       connected_ends edges e starts.there (some e starts.there) joins.0
   grown_connected groups group (joined old x grown room joins) =
       connected_with edges old x (grown_connected groups old grown)
@@ -132,7 +138,8 @@ module _ (answers : Cut → ℤ → Type 0) (tolerance contexts : ℕ) (edges : 
   begun_connected groups (more before group begun room formed) =
       All-push (IsConnected edges) before group (begun_connected before begun) (grown_connected before group formed.0)
 
-pub kept_weigh : (least : ℕ) (edges : List Edge) → 1 ≤ least → (e : Edge) → Contains (kept_edges least edges) e → 0 < e.weight
+pub kept_weigh : (least : ℕ) (edges : List Edge) → 1 ≤ least → (e : Edge) → Contains (kept_edges least edges) e
+    → 0 < e.weight
 kept_weigh least edges some e there =
     let passes = All-contains (λ (e : Edge). nat_le least e.weight ≡ true) (kept_edges least edges) e
     (filter_passes (λ (e : Edge). nat_le least e.weight) edges) there in

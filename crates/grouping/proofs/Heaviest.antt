@@ -1,5 +1,6 @@
 -- The heaviest of the edges seen so far, with one more.
-use Rattle.std.proofs.Common.{ℕ, ◌+◌, ◌<◌, Bool, List, length, get_or, Option, None, Some, nat_lt, sym, ◌∙◌, ap, subst, inl, inr, arith}
+use Rattle.std.proofs.Common.{ℕ, ◌+◌, ◌<◌, Bool, List, length, get_or, Option, None, Some, nat_lt, sym, ◌∙◌, ap, subst}
+use Rattle.std.proofs.Common.{inl, inr, arith}
 use Rattle.std.specs.List.{AllPairs}
 use Rattle.std.proofs.lemmas.Bool.{cases_Bool, cases_eq, cases_order, ltb-true, ltb-false}
 use Rattle.std.proofs.lemmas.List.{get_or_default}
@@ -12,7 +13,8 @@ module _ (edges : List Edge) (busy : List Bool) (n : ℕ) (e0 : Edge) (here : n 
   pub heaviest_skip : (best : Option Edge) → (IsIdleEdge busy (get_or edges n e0) → ⊥) → IsHeaviest edges busy n best →
       IsHeaviest edges busy (n + 1) best
   heaviest_skip None taken is = λ i d h idle. elim (cases_eq i n) [
-    | inl same ↦ absurd (taken (subst (IsIdleEdge busy) (ap (λ k. get_or edges k d) same ∙ get_or_default edges n d e0 here) idle))
+    | inl same ↦ absurd (taken (subst (IsIdleEdge busy) (ap (λ k. get_or edges k d) same
+        ∙ get_or_default edges n d e0 here) idle))
     | inr other ↦ is i d (omega (arith, h, other)) idle
   ]
   heaviest_skip (Some best) taken is = (
@@ -22,7 +24,8 @@ module _ (edges : List Edge) (busy : List Bool) (n : ℕ) (e0 : Edge) (here : n 
       is.1.1,
       is.1.2,
       λ i d h ne idle. elim (cases_eq i n) [
-        | inl same ↦ absurd (taken (subst (IsIdleEdge busy) (ap (λ k. get_or edges k d) same ∙ get_or_default edges n d e0 here) idle))
+        | inl same ↦ absurd (taken (subst (IsIdleEdge busy) (ap (λ k. get_or edges k d) same
+            ∙ get_or_default edges n d e0 here) idle))
         | inr other ↦ is.1.3 i d (omega (arith, h, other)) ne idle
       ],
     ),
@@ -53,7 +56,8 @@ module _ (edges : List Edge) (busy : List Bool) (n : ℕ) (e0 : Edge) (here : n 
                 idle,
                 λ i d h ne p. elim (cases_eq i k) [
                   | inl same ↦
-                      let e = ap (λ (x : Edge). x.weight) (ap (λ j. get_or edges j d) same ∙ get_or_default edges k d best there ∙ is.1.1) in
+                      let e = ap (λ (x : Edge). x.weight) (ap (λ j. get_or edges j d) same
+                      ∙ get_or_default edges k d best there ∙ is.1.1) in
                       inl (omega (arith, e, less))
                   | inr other ↦ elim (is.1.3 i d (omega (arith, h, ne)) other p) [
                     | inl less_yet ↦ inl (omega (arith, less_yet, less))
@@ -73,7 +77,8 @@ module _ (edges : List Edge) (busy : List Bool) (n : ℕ) (e0 : Edge) (here : n 
                   | inl same ↦
                       let at = ap (λ j. get_or edges j d) same ∙ get_or_default edges n d e0 here in
                       let e = ap (λ (x : Edge). x.weight) at in
-                      let before = subst (λ x. EndsBefore x (get_or edges n d)) (get_or_default edges k d best there ∙ is.1.1)
+                      let before = subst (λ x. EndsBefore x (get_or edges n d))
+                      (get_or_default edges k d best there ∙ is.1.1)
                       (ascending k n d front here) in
                       let before_here = subst (EndsBefore best) (sym (ap (λ j. get_or edges j d) same)) before in
                       elim (cases_order f.weight best.weight) [
@@ -89,14 +94,16 @@ module _ (edges : List Edge) (busy : List Bool) (n : ℕ) (e0 : Edge) (here : n 
             )
       ]
 
-pub heaviest_found : (edges : List Edge) (busy : List Bool) (best : Option Edge) → IsHeaviest edges busy (length edges) best →
+pub heaviest_found : (edges : List Edge) (busy : List Bool) (best : Option Edge)
+    → IsHeaviest edges busy (length edges) best →
     FindsHeaviest edges busy best
 heaviest_found edges busy None is = λ e there idle. is there.0 e there.1 (subst (IsIdleEdge busy) (sym there.2) idle)
 heaviest_found edges busy (Some e) is = (
   (is.0, is.1.0, is.1.1),
   is.1.2,
   λ f there idle ne. elim (cases_eq there.0 is.0) [
-    | inl same ↦ absurd (ne (sym there.2 ∙ ap (λ j. get_or edges j f) same ∙ get_or_default edges is.0 f e is.1.0 ∙ is.1.1))
+    | inl same ↦ absurd (ne (sym there.2 ∙ ap (λ j. get_or edges j f) same ∙ get_or_default edges is.0 f e is.1.0
+        ∙ is.1.1))
     | inr other ↦ subst (IsHeavier e) there.2
         (is.1.3 there.0 f there.1 other (subst (IsIdleEdge busy) (sym there.2) idle))
   ],

@@ -1,5 +1,7 @@
 -- Marks of contexts that are in groups, and what they say of who is outside.
-use Rattle.std.proofs.Common.{◌≡◌, ◌≢◌, ℕ, ℤ, zero, suc, ◌<◌, ◌≤◌, ◌==◌, ◌||◌, Bool, true, false, List, [], ◌∷◌, ◌++◌, length, get_or, set, get_or-set_same, get_or-set_other, length-set, None, Some, nat_lt, insert, count_by, refl, sym, ◌∙◌, ap, inl, inr, arith}
+use Rattle.std.proofs.Common.{◌≡◌, ◌≢◌, ℕ, ℤ, zero, suc, ◌<◌, ◌≤◌, ◌==◌, ◌||◌, Bool, true, false, List, [], ◌∷◌, ◌++◌}
+use Rattle.std.proofs.Common.{length, get_or, set, get_or-set_same, get_or-set_other, length-set, None, Some, nat_lt}
+use Rattle.std.proofs.Common.{insert, count_by, refl, sym, ◌∙◌, ap, inl, inr, arith}
 use Rattle.std.specs.List.{Contains}
 use Rattle.std.proofs.lemmas.Bool.{cases_eq, eq-eqb, ne_eqb, lt-ltb, or_parts, or_from}
 use Rattle.std.proofs.lemmas.List.Folds.{list_any-append}
@@ -30,7 +32,8 @@ or_true false = refl
 
 pub taken_push : (groups : List (List ℕ)) (group : List ℕ) (y : ℕ) →
     is_taken (groups ++ group ∷ []) y ≡ (is_taken groups y || is_in group y)
-taken_push groups group y = list_any-append (λ g. is_in g y) groups (group ∷ []) ∙ ap (λ b. is_taken groups y || b) (or_none (is_in group y))
+taken_push groups group y = list_any-append (λ g. is_in g y) groups (group ∷ [])
+    ∙ ap (λ b. is_taken groups y || b) (or_none (is_in group y))
 
 pub in_insert : (group : List ℕ) (i x y : ℕ) → is_in (insert group i x) y ≡ (is_in group y || (x == y))
 in_insert [] zero x y = or_none (x == y)
@@ -70,7 +73,8 @@ module _ (busy : List Bool) (groups : List (List ℕ)) (group : List ℕ) (marks
   pub outside_from_idle : (x : ℕ) → x < length busy → IsIdle busy x →
       (x < length busy) × (is_taken groups x ≡ false) × (is_in group x ≡ false)
   outside_from_idle x h idle =
-      let parts = or_parts (is_taken groups x) (is_in group x) (sym (taken_push groups group x) ∙ sym (marks x h) ∙ idle) in
+      let parts = or_parts (is_taken groups x) (is_in group x)
+      (sym (taken_push groups group x) ∙ sym (marks x h) ∙ idle) in
       (h, parts.0, parts.1)
 
   pub idle_from_outside : (x : ℕ) → (x < length busy) × (is_taken groups x ≡ false) × (is_in group x ≡ false) →
@@ -104,7 +108,11 @@ module _ (busy : List Bool) (groups : List (List ℕ)) (edges : List Edge) (are 
   edge_starts e found = let joins = All-contains (Joins (length busy)) edges e are.joins found.0 in
       record {
         there = found.0;
-        free = (sym (marks e.low (omega (arith, joins))) ∙ found.1.0, sym (marks e.high (omega (arith, joins))) ∙ found.1.1);
+        free = (
+          sym (marks e.low (omega (arith, joins))) ∙ found.1.0,
+          sym (marks e.high (omega (arith, joins)))
+              ∙ found.1.1,
+        );
         heaviest = λ f there free ne. found.2 f there (idle_from_free f there free) ne;
       }
 

@@ -1,17 +1,21 @@
 -- Weights of edges that are few and small, and of groups with one member more.
-use Rattle.std.proofs.Common.{◌≡◌, ◌⊎◌, ℕ, suc, zero, ◌+◌, ◌*◌, ◌^◌, ◌<◌, ◌≤◌, ◌==◌, Bool, true, false, cond, List, [], ◌∷◌, length, take, get_or, set, get_or-set_same, get_or-set_other, refl, ◌∙◌, ap, inl, inr, arith, All, nat_lt, nat_le, count_by, insert}
+use Rattle.std.proofs.Common.{◌≡◌, ◌⊎◌, ℕ, suc, zero, ◌+◌, ◌*◌, ◌^◌, ◌<◌, ◌≤◌, ◌==◌, Bool, true, false, cond, List, []}
+use Rattle.std.proofs.Common.{◌∷◌, length, take, get_or, set, get_or-set_same, get_or-set_other, refl, ◌∙◌, ap, inl}
+use Rattle.std.proofs.Common.{inr, arith, All, nat_lt, nat_le, count_by, insert}
 use Rattle.std.specs.List.{AllPairs}
 use mir.Val.{bool_byte}
 use Rattle.std.proofs.Math.Nat.{mul-le-mul_right}
 use Rattle.std.proofs.lemmas.Bool.{cases_Bool, cases_eq, eq-eqb, ne_eqb}
 use Rattle.std.proofs.lemmas.Bool.Decides.{nat_tests}
-use Rattle.std.proofs.lemmas.List.Sums.{sum_by-cons, sum_by-le, sum_by-insert, sum_by-le-sum_by, sum_by_more, sum_by_more_le, count_by-le-length}
+use Rattle.std.proofs.lemmas.List.Sums.{sum_by-cons, sum_by-le, sum_by-insert, sum_by-le-sum_by, sum_by_more}
+use Rattle.std.proofs.lemmas.List.Sums.{sum_by_more_le, count_by-le-length}
 use Rattle.std.proofs.lemmas.List.Elements.{All-head, All-tail, All-filter}
 use Rattle.std.proofs.lemmas.List.Kept.{AllPairs-filter}
 use Rattle.std.proofs.lemmas.List.Edits.{length-insert}
 use Rattle.plan_core.specs.declared.profiles.Edge.{Edge}
 use Rattle.plan_core.specs.Graphs.{EndsBefore, Joins}
-use Rattle.grouping.specs.Weights.{kept_edges, is_between, weight_between, weight_across, weight_inside, loops_in, cut_of, with_member}
+use Rattle.grouping.specs.Weights.{kept_edges, is_between, weight_between, weight_across, weight_inside, loops_in}
+use Rattle.grouping.specs.Weights.{cut_of, with_member}
 use Rattle.group_policy.specs.Cuts.{InRange}
 use Rattle.grouping.specs.Greedy.{ends}
 use Rattle.grouping.specs.Growing.{AreEdges}
@@ -56,7 +60,8 @@ between_small n x y (e ∷ es) joins pairs =
     let rest = between_small n x y es (All-tail (Joins n) e es joins) (pairs_tail EndsBefore e es pairs) in
     elim (cases_Bool (is_between x y e)) [
       | inl there ↦
-          let none = none_between n x y e es first.0 (All-tail (Joins n) e es joins) (pairs_head EndsBefore e es pairs) there in
+          let none = none_between n x y e es first.0 (All-tail (Joins n) e es joins) (pairs_head EndsBefore e es pairs)
+          there in
           let one = part_there x y e there in omega (arith, sums, none, one, first)
       | inr none ↦ let zero_here = part_none x y e none in omega (arith, sums, zero_here, rest)
     ]
@@ -168,7 +173,8 @@ byte_is false = refl
 pub loops_step : (es : List Edge) (x : ℕ) (group : List ℕ) (loops own byte : ℕ) → loops ≡ loops_in es group →
     own ≡ weight_between es x x → byte ≡ bool_byte (nat_lt 0 own) → loops + byte ≡ loops_in es (with_member x group)
 loops_step es x group loops own byte e same b =
-    let one : byte ≡ cond (nat_lt 0 (weight_between es x x)) 1 0 = b ∙ byte_is (nat_lt 0 own) ∙ ap (λ w. cond (nat_lt 0 w) 1 0) same in
+    let one : byte ≡ cond (nat_lt 0 (weight_between es x x)) 1 0 = b ∙ byte_is (nat_lt 0 own)
+    ∙ ap (λ w. cond (nat_lt 0 w) 1 0) same in
     let more = loops_with es x group in omega (arith, e, one, more)
 
 -- the weights that fit
@@ -182,13 +188,15 @@ pub inside_fits : (n : ℕ) (es : List Edge) (group : List ℕ) → AreEdges n e
     weight_inside es group ≤ 28 * 2 ^ 44
 inside_fits n es group are few = let small = inside_small n es group are in
     let seven : length group ≤ 7 = omega arith in
-    let front : length group * (length group + 1) ≤ 7 * (length group + 1) = mul-le-mul_right (length group + 1) seven in
+    let front : length group * (length group + 1) ≤ 7 * (length group + 1) =
+    mul-le-mul_right (length group + 1) seven in
     let square : length group * (length group + 1) ≤ 56 = omega arith in
     let most : length group * (length group + 1) * 2 ^ 44 ≤ 56 * 2 ^ 44 = mul-le-mul_right (2 ^ 44) square in
     omega arith
 
 -- what a group's counts are with one member more
-pub cross_step : (cross after group : List ℕ) (es : List Edge) (x y : ℕ) → get_or after y 0 ≡ get_or cross y 0 + weight_between es y x →
+pub cross_step : (cross after group : List ℕ) (es : List Edge) (x y : ℕ)
+    → get_or after y 0 ≡ get_or cross y 0 + weight_between es y x →
     get_or cross y 0 ≡ weight_across es y group → get_or after y 0 ≡ weight_across es y (with_member x group)
 cross_step cross after group es x y e so = let w = across_with es x y group in omega arith
 

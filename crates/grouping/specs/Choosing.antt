@@ -1,5 +1,6 @@
 -- The best candidate of those seen so far.
-use Rattle.std.specs.Prelude.{◌≡◌, ◌≢◌, ℕ, ℤ, pos, ◌<◌, ◌≤ℤ◌, ◌<ℤ◌, Option, None, Some, Bool, true, false, List, length, slice_index_or, MatchOption, Contains, nat_lt, if◌then◌else◌}
+use Rattle.std.specs.Prelude.{◌≡◌, ◌≢◌, ℕ, ℤ, pos, ◌<◌, ◌≤ℤ◌, ◌<ℤ◌, Option, None, Some, Bool, true, false, List, length}
+use Rattle.std.specs.Prelude.{slice_index_or, MatchOption, Contains, nat_lt, if◌then◌else◌}
 use lib.Signed.{le_z, lt_z}
 use Rattle.plan_core.specs.declared.profiles.Edge.{Edge}
 use Rattle.group_policy.specs.declared.cut.Cut.{Cut}
@@ -16,7 +17,8 @@ module _ (says : ℕ → ℤ → Type 0) (outside : ℕ → Type 0) (n : ℕ) wh
   -- each context outside below n is given one answer; x has this one, the greatest, and is the lowest with it
   abbrev pub IsGreatest : ℕ → ℤ → Type 0
   IsGreatest x answer = (x < n) × outside x × says x answer
-      × ((y : ℕ) → y < n → outside y → y ≢ x → (other : ℤ) × says y other × (other ≤ℤ answer) × (y < x → other <ℤ answer))
+      × ((y : ℕ) → y < n → outside y → y ≢ x → (other : ℤ) × says y other × (other ≤ℤ answer)
+      × (y < x → other <ℤ answer))
 
   -- x has the greatest answer, and it is above 0
   abbrev pub IsChosen : ℕ → Type 0
@@ -60,7 +62,8 @@ heavier_of (Some best) edge = if nat_lt best.weight edge.weight then Some edge e
 -- of the first n edges with idle ends this one is the heaviest, at place k, the first of equal ones
 abbrev pub IsHeaviestAt : List Edge → List Bool → ℕ → Edge → ℕ → Type 0
 IsHeaviestAt edges busy n e k = (k < n) × (slice_index_or edges k e ≡ e) × IsIdleEdge busy e
-    × ((i : ℕ) (d : Edge) → i < n → i ≢ k → IsIdleEdge busy (slice_index_or edges i d) → IsHeavier e (slice_index_or edges i d))
+    × ((i : ℕ) (d : Edge) → i < n → i ≢ k → IsIdleEdge busy (slice_index_or edges i d)
+    → IsHeavier e (slice_index_or edges i d))
 
 -- which of the first n edges is the heaviest with idle ends, if there is one
 abbrev pub IsHeaviest : List Edge → List Bool → ℕ → Option Edge → Type 0
@@ -71,4 +74,5 @@ IsHeaviest edges busy n (Some e) = (k : ℕ) × IsHeaviestAt edges busy n e k
 abbrev pub FindsHeaviest : List Edge → List Bool → Option Edge → Type 0
 FindsHeaviest edges busy found = MatchOption found
     ((e : Edge) → Contains edges e → IsIdleEdge busy e → ⊥)
-    (λ e. Contains edges e × IsIdleEdge busy e × ((f : Edge) → Contains edges f → IsIdleEdge busy f → f ≢ e → IsHeavier e f))
+    (λ e. Contains edges e × IsIdleEdge busy e × ((f : Edge) → Contains edges f → IsIdleEdge busy f → f ≢ e
+    → IsHeavier e f))

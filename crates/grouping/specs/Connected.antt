@@ -6,7 +6,8 @@ use Rattle.grouping.specs.Weights.{is_in, weight_between}
 -- a way leads from a context to another, along edges to members of the group
 pub data Leads (edges : List Edge) (group : List ℕ) (x : ℕ) : ℕ → Type 0 where
   here : Leads edges group x x
-  along : (y z : ℕ) → Leads edges group x y → is_in group z ≡ true → 0 < weight_between edges y z → Leads edges group x z
+  along : (y z : ℕ) → Leads edges group x y → is_in group z ≡ true → 0 < weight_between edges y z
+      → Leads edges group x z
 
 -- a way leads from each member to each other one
 abbrev pub IsConnected : List Edge → List ℕ → Type 0

@@ -1,5 +1,6 @@
 -- The groups that are made greedily of the kept edges: which group begins, who joins it, and when it is closed.
-use Rattle.std.specs.Prelude.{◌≡◌, ◌≢◌, ◌⊎◌, ℕ, ℤ, pos, ◌<◌, ◌≤ℤ◌, ◌<ℤ◌, ◌==◌, Bool, false, List, [], ◌∷◌, ◌++◌, length, Contains, if◌then◌else◌}
+use Rattle.std.specs.Prelude.{◌≡◌, ◌≢◌, ◌⊎◌, ℕ, ℤ, pos, ◌<◌, ◌≤ℤ◌, ◌<ℤ◌, ◌==◌, Bool, false, List, [], ◌∷◌, ◌++◌, length}
+use Rattle.std.specs.Prelude.{Contains, if◌then◌else◌}
 use Rattle.std.specs.List.{list_any}
 use Rattle.plan_core.specs.declared.profiles.Edge.{Edge}
 use Rattle.plan_core.specs.Graphs.{EndsBefore}

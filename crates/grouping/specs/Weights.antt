@@ -1,5 +1,6 @@
 -- Weights between contexts and inside groups, and the cut that a rule is asked about.
-use Rattle.std.specs.Prelude.{ℕ, ◌+◌, ◌==◌, ◌&&◌, ◌||◌, nat_lt, nat_le, Bool, List, [], ◌∷◌, length, filter, count_by, sum_by, insert, if◌then◌else◌}
+use Rattle.std.specs.Prelude.{ℕ, ◌+◌, ◌==◌, ◌&&◌, ◌||◌, nat_lt, nat_le, Bool, List, [], ◌∷◌, length, filter, count_by}
+use Rattle.std.specs.Prelude.{sum_by, insert, if◌then◌else◌}
 use Rattle.std.specs.List.{list_any}
 use Rattle.plan_core.specs.declared.profiles.Edge.{Edge}
 use Rattle.group_policy.specs.declared.cut.Cut.{Cut}

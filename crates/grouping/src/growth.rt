@@ -1,5 +1,6 @@
 // A group that grows by one member after the other.
-ghost use Rattle.std.specs.Prelude.{◌≡◌, ◌⊎◌, ◌==◌, false, ℕ, ◌+◌, ◌*◌, ◌^◌, ◌<◌, ◌≤◌, [], length, vec_len, IfOk, OnOk, IfNone, IfSome, slice_index};
+ghost use Rattle.std.specs.Prelude.{◌≡◌, ◌⊎◌, ◌==◌, false, ℕ, ◌+◌, ◌*◌, ◌^◌, ◌<◌, ◌≤◌, [], length, vec_len, IfOk, OnOk};
+ghost use Rattle.std.specs.Prelude.{IfNone, IfSome, slice_index};
 ghost use Rattle.grouping.specs.Weights.{is_between, weight_between, cut_of, with_member};
 ghost use Rattle.grouping.specs.Growing.{AreEdges, AreKept, IsCounted};
 

@@ -1,5 +1,6 @@
 // Groups, one after the other.
-ghost use Rattle.std.specs.Prelude.{◌≡◌, ℕ, List, ◌^◌, ◌<◌, ◌≤◌, ◌++◌, [], ◌∷◌, length, vec_len, All, IfOk, OnOk, slice_set, true};
+ghost use Rattle.std.specs.Prelude.{◌≡◌, ℕ, List, ◌^◌, ◌<◌, ◌≤◌, ◌++◌, [], ◌∷◌, length, vec_len, All, IfOk, OnOk};
+ghost use Rattle.std.specs.Prelude.{slice_set, true};
 ghost use Rattle.plan_core.specs.Graphs.{IsOrdered};
 ghost use Rattle.grouping.specs.Weights.{kept_edges, with_member};
 ghost use Rattle.grouping.specs.Greedy.{Starts, Grown, Formed, Greedy, ends};
@@ -38,7 +39,8 @@ pub fn group(
     requires ordered { IsOrdered graph.now }
     ensures greedy { IfOk result (Greedy (λ cut answer. ⟦<Rule as Fn(Cut) -> i128>⟧.post policy.now.rule cut answer)
         options.now.tolerance (length graph.now.nodes) (kept_edges options.now.least_edge graph.now.edges)) }
-    ensures connected { IfOk result (λ groups. All (IsConnected (kept_edges options.now.least_edge graph.now.edges)) groups) }
+    ensures connected { IfOk result (λ groups. All (IsConnected (kept_edges options.now.least_edge graph.now.edges))
+        groups) }
 {
     let contexts = graph.nodes.as_slice().len();
     let kept = Kept::new(alloc, graph.edges.as_slice(), options.least_edge, contexts)?;
@@ -97,7 +99,8 @@ fn start(alloc: Global, kept: &Kept, busy: &mut [bool], edge: Edge) -> Result<Gr
     ensures counted { IfOk result (IsCounted kept.now.edges.items) }
     ensures members { IfOk result (λ g. g.members.items ≡ ends edge) }
     ensures sizes { IfOk result (λ g. vec_len g.cross ≡ length busy.old) }
-    ensures marks { (groups : List (List ℕ)) → Marks busy.old groups → OnOk result (Marks busy.new (groups ++ ends edge ∷ [])) }
+    ensures marks { (groups : List (List ℕ)) → Marks busy.old groups
+        → OnOk result (Marks busy.new (groups ++ ends edge ∷ [])) }
 {
     let mut growth = Growth::new(alloc, busy.len())?;
     take(&mut growth, kept, busy, edge.low)?;

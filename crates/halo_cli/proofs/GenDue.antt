@@ -7,7 +7,8 @@ use Rattle.text_fields.specs.Reading.{number_of}
 use Rattle.rv_build.specs.Generated.{generated}
 use Rattle.endings.specs.declared.endings.Ending.TheVariants.{Done}
 use Rattle.halo_words.specs.declared.forms.Kind.TheVariants.{Number}
-use Rattle.halo_words.specs.Table.{Place, Shape, fits, is_plain, has_kind, is_at_least, shape_named, the_table, node_count}
+use Rattle.halo_words.specs.Table.{Place, Shape, fits, is_plain, has_kind, is_at_least, shape_named, the_table}
+use Rattle.halo_words.specs.Table.{node_count}
 use Rattle.halo_words.specs.Grammar.{Asked, AsksFor, operand_in}
 use Rattle.halo_cli.specs.Generate.{gen_entry, nodes_in}
 use Rattle.halo_cli.proofs.CommandLaws.{Laws, text_laws}

@@ -1,6 +1,7 @@
 -- The file of the generated program is short, and none of its tables lies over the fields of the file header that
 -- change.
-use Rattle.std.proofs.Common.{◌≡◌, ◌∙◌, ℕ, ◌+◌, ◌<◌, ◌≤◌, ◌⊎◌, inr, List, length, Some, refl, sym, ap, subst, arith, find}
+use Rattle.std.proofs.Common.{◌≡◌, ◌∙◌, ℕ, ◌+◌, ◌<◌, ◌≤◌, ◌⊎◌, inr, List, length, Some, refl, sym, ap, subst, arith}
+use Rattle.std.proofs.Common.{find}
 use Rattle.elf_spec.specs.declared.Section.{Section}
 use Rattle.elf_spec.specs.Records.{sections_of}
 use Rattle.elf_spec.specs.Tables.{is_symtab, strings_of}

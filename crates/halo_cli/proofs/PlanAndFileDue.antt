@@ -1,5 +1,6 @@
 -- What is told of a plan and a file brings a command to one ending, and what was read of them brings it there.
-use Rattle.std.proofs.Common.{◌≡◌, ◌∙◌, ℕ, ◌<◌, ◌≤◌, ◌⊎◌, inl, inr, ⊎_elim, Bool, true, nat_lt, List, length, Option, None, Some, MatchOption, refl, sym, subst, arith}
+use Rattle.std.proofs.Common.{◌≡◌, ◌∙◌, ℕ, ◌<◌, ◌≤◌, ◌⊎◌, inl, inr, ⊎_elim, Bool, true, nat_lt, List, length, Option}
+use Rattle.std.proofs.Common.{None, Some, MatchOption, refl, sym, subst, arith}
 use Rattle.std.specs.Bool.{MatchBool}
 use Rattle.std.specs.Prelude.{IsSomeAnd}
 use Rattle.std.proofs.lemmas.Bool.Decides.{nat_tests}
@@ -18,8 +19,10 @@ use Rattle.endings.specs.declared.endings.BadFile.TheVariants as bad_file
 use Rattle.endings.specs.declared.endings.BadPlan.{BadPlan}
 use Rattle.endings.specs.declared.endings.BadPlan.TheVariants.{TooLong, Text, Misfit}
 use Rattle.halo_cli.specs.Reads.{plan_limit, file_limit, FileComes, IsNoFile, HasReadCause}
-use Rattle.halo_cli.specs.PlanAndFile.{IsTextOf, refused_ending, FitComes, TextComes, BothCome, ContentsCome, IsNoPlan, AreRead, BothBring}
-use Rattle.halo_cli.proofs.ReadsDue.{has_cause, cause_weaker, limit_once, within, of_within, file_once, no_file_comes, told_comes, of_told_comes}
+use Rattle.halo_cli.specs.PlanAndFile.{IsTextOf, refused_ending, FitComes, TextComes, BothCome, ContentsCome, IsNoPlan}
+use Rattle.halo_cli.specs.PlanAndFile.{AreRead, BothBring}
+use Rattle.halo_cli.proofs.ReadsDue.{has_cause, cause_weaker, limit_once, within, of_within, file_once, no_file_comes}
+use Rattle.halo_cli.proofs.ReadsDue.{told_comes, of_told_comes}
 
 -- a plan's text is that of one plan, or has one first line that is wrong or one too many
 pub record TextsOnce : Type 0 where

@@ -1,5 +1,6 @@
 -- Look-ups in a list of policies, by their names.
-use Rattle.std.proofs.Common.{◌≡◌, ◌+◌, ◌<◌, ◌≤◌, ℕ, true, false, List, length, map, drop, get_or, Option, None, Some, refl, add-one}
+use Rattle.std.proofs.Common.{◌≡◌, ◌+◌, ◌<◌, ◌≤◌, ℕ, true, false, List, length, map, drop, get_or, Option, None, Some}
+use Rattle.std.proofs.Common.{refl, add-one}
 use Rattle.std.specs.Str.{bytes_eq}
 use Rattle.std.specs.List.{position_from}
 use Rattle.std.proofs.lemmas.List.{drop_all}

@@ -1,12 +1,15 @@
 -- What is told brings a command that profiles a run to one ending, and what was read brings it there.
-use Rattle.std.proofs.Common.{◌≡◌, ◌∙◌, ◌⊎◌, ℕ, inl, inr, List, Option, None, Some, MatchOption, refl, sym, ap, subst, arith}
+use Rattle.std.proofs.Common.{◌≡◌, ◌∙◌, ◌⊎◌, ℕ, inl, inr, List, Option, None, Some, MatchOption, refl, sym, ap, subst}
+use Rattle.std.proofs.Common.{arith}
 use Rattle.halo_outside.specs.Seen.{Contents, contents_of, IsToldAt}
 use Rattle.plan_core.specs.declared.profiles.Profile.{Profile}
 use Rattle.exec_image.specs.declared.refusals.FileRefusal.{FileRefusal}
 use Rattle.exec_image.specs.Refusals.{file_refusal}
 use Rattle.heap_trace.specs.Profiles.{plan_of_area}
 use Rattle.endings.specs.declared.endings.Ending.{Ending}
-use Rattle.endings.specs.declared.endings.Ending.TheVariants.{Done, File, Plan, Profile as BadProfile, ReadFault, WriteFault, Memory, Usage, Exited, StillRunning, Fault, Illegal}
+use Rattle.endings.specs.declared.endings.Ending.TheVariants.{Done, File, Plan, Profile as BadProfile, ReadFault}
+use Rattle.endings.specs.declared.endings.Ending.TheVariants.{WriteFault, Memory, Usage, Exited, StillRunning, Fault}
+use Rattle.endings.specs.declared.endings.Ending.TheVariants.{Illegal}
 use Rattle.endings.specs.declared.endings.BadFile.TheVariants.{Refused}
 use Rattle.endings.specs.Endings.{status_of}
 use Rattle.halo_words.specs.Grammar.{Given, operand_in}
@@ -15,7 +18,8 @@ use Rattle.halo_cli.specs.Writing.{IsUnmoved}
 use Rattle.halo_cli.specs.Reads.{file_limit}
 use Rattle.halo_cli.specs.Options.{area_in}
 use Rattle.halo_cli.specs.Runs.{Run, InputEnds, RunsTo, steps_in}
-use Rattle.halo_cli.specs.Profiling.{area_run, behind_run, ComesBehind, FileComesBehind, ProfilingComes, ProfilingBrings, ProfilingStops, ProfilingWrites, ProfilingLacks, profiling_entry}
+use Rattle.halo_cli.specs.Profiling.{area_run, behind_run, ComesBehind, FileComesBehind, ProfilingComes}
+use Rattle.halo_cli.specs.Profiling.{ProfilingBrings, ProfilingStops, ProfilingWrites, ProfilingLacks, profiling_entry}
 use Rattle.halo_cli.proofs.ReadsDue.{file_once, told_comes, of_told_comes, no_file_comes, lacks_told}
 use Rattle.halo_cli.proofs.CommandLaws.{IsSilent, Laws}
 use Rattle.halo_cli.proofs.RunsOnce.{input_once, known_run}

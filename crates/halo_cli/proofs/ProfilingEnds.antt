@@ -5,7 +5,9 @@ use Rattle.exec_image.specs.declared.refusals.FileRefusal.{FileRefusal}
 use Rattle.exec_image.specs.Images.{IsAccepted}
 use Rattle.heap_trace.specs.declared.profiles.Profiled.{Profiled}
 use Rattle.endings.specs.declared.endings.Ending.{Ending}
-use Rattle.endings.specs.declared.endings.Ending.TheVariants.{Done, File, Plan, Profile as BadProfile, ReadFault, WriteFault, Memory, Usage, Exited, StillRunning, Fault, Illegal}
+use Rattle.endings.specs.declared.endings.Ending.TheVariants.{Done, File, Plan, Profile as BadProfile, ReadFault}
+use Rattle.endings.specs.declared.endings.Ending.TheVariants.{WriteFault, Memory, Usage, Exited, StillRunning, Fault}
+use Rattle.endings.specs.declared.endings.Ending.TheVariants.{Illegal}
 use Rattle.endings.specs.declared.endings.BadFile.TheVariants.{Refused}
 use Rattle.halo_words.specs.Grammar.{Given, operand_in}
 use Rattle.halo_cli.specs.World.{Outside, OnlyMoves}
@@ -13,7 +15,9 @@ use Rattle.halo_cli.specs.Writing.{WritesOrLacks}
 use Rattle.halo_cli.specs.Reads.{file_limit, IsRead, AreFirstReads}
 use Rattle.halo_cli.specs.Options.{area_in}
 use Rattle.halo_cli.specs.Runs.{IsRunEnd, RunsTo, steps_in}
-use Rattle.halo_cli.specs.Profiling.{area_run, distance_in, behind_run, ComesBehind, ProfilingBrings, ProfilingCause, ProfilingStops, LeftSome, RunStopped, RunProfiled, AcceptsFile, FileStops, MadeText, file_reads, profiling_entry}
+use Rattle.halo_cli.specs.Profiling.{area_run, distance_in, behind_run, ComesBehind, ProfilingBrings, ProfilingCause}
+use Rattle.halo_cli.specs.Profiling.{ProfilingStops, LeftSome, RunStopped, RunProfiled, AcceptsFile, FileStops}
+use Rattle.halo_cli.specs.Profiling.{MadeText, file_reads, profiling_entry}
 use Rattle.halo_cli.specs.Ends.{HasCauseOf, EndsOf}
 use Rattle.halo_cli.proofs.ProfilingDue.{brings_brought}
 

@@ -8,11 +8,13 @@ use Rattle.machine_run.specs.declared.RunEnd.{RunEnd}
 use Rattle.machine_run.specs.declared.RunEnd.TheVariants as run_end
 use Rattle.machine_run.specs.Runs.{WritesAll}
 use Rattle.endings.specs.declared.endings.Ending.{Ending}
-use Rattle.endings.specs.declared.endings.Ending.TheVariants.{Done, Exited, Usage, File, Plan, Profile, ReadFault, WriteFault, Memory, StillRunning, Fault, Illegal}
+use Rattle.endings.specs.declared.endings.Ending.TheVariants.{Done, Exited, Usage, File, Plan, Profile, ReadFault}
+use Rattle.endings.specs.declared.endings.Ending.TheVariants.{WriteFault, Memory, StillRunning, Fault, Illegal}
 use Rattle.halo_words.specs.Grammar.{Given}
 use Rattle.halo_cli.specs.World.{Outside}
 use Rattle.halo_cli.specs.Entry.{Entry}
-use Rattle.halo_cli.specs.Runs.{Run, Stand, ending_at, RunsBefore, IsRunEnd, MayRunTo, RunsTo, HasRest, HasPart, RanTo, IsLoadEnding}
+use Rattle.halo_cli.specs.Runs.{Run, Stand, ending_at, RunsBefore, IsRunEnd, MayRunTo, RunsTo, HasRest, HasPart, RanTo}
+use Rattle.halo_cli.specs.Runs.{IsLoadEnding}
 use Rattle.halo_cli.specs.RunEnds.{ending_or_memory}
 use Rattle.halo_cli.specs.Ends.{HasCauseOf}
 

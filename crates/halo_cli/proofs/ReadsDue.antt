@@ -1,11 +1,13 @@
 -- What one more file of told contents brings a command to, and endings that the bytes of files decide.
-use Rattle.std.proofs.Common.{◌≡◌, ◌∙◌, ℕ, ◌<◌, ◌≤◌, ◌⊎◌, inl, inr, Bool, true, false, nat_lt, List, length, Option, None, Some, refl, sym, subst, arith}
+use Rattle.std.proofs.Common.{◌≡◌, ◌∙◌, ℕ, ◌<◌, ◌≤◌, ◌⊎◌, inl, inr, Bool, true, false, nat_lt, List, length, Option}
+use Rattle.std.proofs.Common.{None, Some, refl, sym, subst, arith}
 use Rattle.std.specs.Prelude.{IsSomeAnd}
 use Rattle.std.specs.Bool.{MatchBool}
 use Rattle.std.proofs.lemmas.Bool.Decides.{nat_tests}
 use Rattle.halo_outside.specs.Seen.{Contents, contents_of, FilesSeen, Lacks, IsTooLong}
 use Rattle.endings.specs.declared.endings.Ending.{Ending}
-use Rattle.endings.specs.declared.endings.Ending.TheVariants.{Done, Exited, Usage, File, Plan, Profile, ReadFault, WriteFault, Memory, StillRunning, Fault, Illegal}
+use Rattle.endings.specs.declared.endings.Ending.TheVariants.{Done, Exited, Usage, File, Plan, Profile, ReadFault}
+use Rattle.endings.specs.declared.endings.Ending.TheVariants.{WriteFault, Memory, StillRunning, Fault, Illegal}
 use Rattle.endings.specs.declared.endings.BadFile.TheVariants.{TooLong}
 use Rattle.halo_cli.specs.Reads.{OperandComes, FileComes, IsNotRead, IsNoFile, HasReadCause}
 

@@ -3,7 +3,8 @@ use Rattle.std.proofs.Common.{◌≡◌, ◌≢◌, ◌∙◌, ℕ, ◌≤◌, �
 use Rattle.halo_outside.specs.Seen.{Contents}
 use Rattle.machine_spec.specs.declared.FaultKind.{FaultKind}
 use Rattle.endings.specs.declared.endings.Ending.{Ending}
-use Rattle.endings.specs.declared.endings.Ending.TheVariants.{Done, Usage, File, Plan, Profile, ReadFault, WriteFault, Memory, Exited, StillRunning, Fault, Illegal}
+use Rattle.endings.specs.declared.endings.Ending.TheVariants.{Done, Usage, File, Plan, Profile, ReadFault, WriteFault}
+use Rattle.endings.specs.declared.endings.Ending.TheVariants.{Memory, Exited, StillRunning, Fault, Illegal}
 use Rattle.endings.specs.declared.endings.BadFile.{BadFile}
 use Rattle.endings.specs.declared.endings.BadPlan.{BadPlan}
 use Rattle.endings.specs.declared.endings.BadProfile.{BadProfile}
@@ -17,7 +18,8 @@ use Rattle.halo_cli.specs.Commands.{entry_in}
 use Rattle.halo_cli.specs.Reads.{AreTold}
 use Rattle.halo_cli.specs.World.{Outside, World, OnlyMoves}
 use Rattle.halo_cli.specs.Ends.{HasCauseOf, EndsOf, LineEnds, IsFinished}
-use Rattle.halo_cli.specs.Answers.{ToldBring, LineBrings, ReadFailed, OutFailed, NoteFailed, Gives, GivesIfRead, GivesIfRun, Answers}
+use Rattle.halo_cli.specs.Answers.{ToldBring, LineBrings, ReadFailed, OutFailed, NoteFailed, Gives, GivesIfRead}
+use Rattle.halo_cli.specs.Answers.{GivesIfRun, Answers}
 use Rattle.halo_cli.proofs.CommandLaws.{MayWrite, Laws}
 use Rattle.halo_cli.proofs.PlanAndFileDue.{TextsOnce}
 use Rattle.halo_cli.proofs.PlanDue.{ProfilesOnce}

@@ -1,5 +1,6 @@
 -- What is told brings `run` to one ending, and what was read brings it there.
-use Rattle.std.proofs.Common.{◌≡◌, ◌∙◌, ℕ, zero, suc, ◌+◌, ◌<◌, inl, inr, ⊎_elim, List, [], Option, None, Some, refl, sym, subst, MatchOption, arith}
+use Rattle.std.proofs.Common.{◌≡◌, ◌∙◌, ℕ, zero, suc, ◌+◌, ◌<◌, inl, inr, ⊎_elim, List, [], Option, None, Some, refl}
+use Rattle.std.proofs.Common.{sym, subst, MatchOption, arith}
 use Rattle.std.proofs.lemmas.Bool.{cases_order}
 use Rattle.halo_outside.specs.Seen.{Contents, contents_of, IsToldAt}
 use Rattle.elf_read.specs.declared.refusals.ElfRefusal.{ElfRefusal}

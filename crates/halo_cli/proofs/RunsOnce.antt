@@ -1,10 +1,12 @@
 -- A run has one end, and what is known of it says so.
-use Rattle.std.proofs.Common.{◌≡◌, ◌≢◌, ◌∙◌, ℕ, ◌+◌, ◌<◌, ◌≤◌, inl, inr, ⊎_elim, List, Option, None, Some, refl, sym, ap, arith}
+use Rattle.std.proofs.Common.{◌≡◌, ◌≢◌, ◌∙◌, ℕ, ◌+◌, ◌<◌, ◌≤◌, inl, inr, ⊎_elim, List, Option, None, Some, refl, sym}
+use Rattle.std.proofs.Common.{ap, arith}
 use Rattle.std.proofs.lemmas.Bool.{cases_order}
 use Rattle.machine_spec.specs.declared.Ending as machine_ending
 use Rattle.machine_spec.specs.declared.Ending.TheVariants as machine
 use Rattle.endings.specs.declared.endings.Ending.{Ending}
-use Rattle.endings.specs.declared.endings.Ending.TheVariants.{Done, File, Plan, Profile, ReadFault, WriteFault, Memory, Usage, Exited, StillRunning, Fault, Illegal}
+use Rattle.endings.specs.declared.endings.Ending.TheVariants.{Done, File, Plan, Profile, ReadFault, WriteFault, Memory}
+use Rattle.endings.specs.declared.endings.Ending.TheVariants.{Usage, Exited, StillRunning, Fault, Illegal}
 use Rattle.halo_cli.specs.Runs.{Run, ending_at, RunsBefore, IsRunEnd, InputEnds, RunsTo}
 use Rattle.halo_cli.proofs.CommandLaws.{MayWrite}
 

@@ -7,14 +7,16 @@ use Rattle.exec_image.specs.Refusals.{file_refusal}
 use Rattle.rv_build.specs.Generated.{generated}
 use Rattle.heap_trace.specs.Profiles.{plan_of_area}
 use Rattle.endings.specs.declared.endings.Ending.{Ending}
-use Rattle.endings.specs.declared.endings.Ending.TheVariants.{Done, File, Plan, Profile, ReadFault, WriteFault, Memory, Usage, Exited, StillRunning, Fault, Illegal}
+use Rattle.endings.specs.declared.endings.Ending.TheVariants.{Done, File, Plan, Profile, ReadFault, WriteFault, Memory}
+use Rattle.endings.specs.declared.endings.Ending.TheVariants.{Usage, Exited, StillRunning, Fault, Illegal}
 use Rattle.endings.specs.declared.endings.BadFile.TheVariants.{Refused}
 use Rattle.halo_words.specs.Grammar.{Given}
 use Rattle.halo_cli.specs.Options.{Policies, default_policy, place_named}
 use Rattle.halo_cli.specs.Generate.{nodes_in}
 use Rattle.halo_cli.specs.Run.{run_of_file}
 use Rattle.halo_cli.specs.Profiling.{area_run, behind_run, ComesBehind}
-use Rattle.halo_cli.specs.SelfRun.{default_area, most_steps, IsSourceEnd, IsNewEnd, SelfMade, BehindSource, SelfEnds, SelfEndsBy, SelfComes, SelfBrings, SelfWrites, self_entry}
+use Rattle.halo_cli.specs.SelfRun.{default_area, most_steps, IsSourceEnd, IsNewEnd, SelfMade, BehindSource, SelfEnds}
+use Rattle.halo_cli.specs.SelfRun.{SelfEndsBy, SelfComes, SelfBrings, SelfWrites, self_entry}
 use Rattle.halo_cli.proofs.CommandLaws.{Laws, text_laws_by}
 use Rattle.halo_cli.proofs.RunsOnce.{run_end_once}
 use Rattle.halo_cli.proofs.RunDue.{file_goes_on}

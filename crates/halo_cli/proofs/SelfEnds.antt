@@ -1,5 +1,6 @@
 -- The two runs of `self`, over an empty source and a sink that drops what it takes, and what is made between them.
-use Rattle.std.proofs.Common.{◌≡◌, ◌∙◌, ◌⊎◌, ℕ, ℤ, ◌<◌, ◌≤◌, ◌^◌, inl, inr, List, [], length, Option, None, Some, MatchOption, refl, sym, ap, subst, arith}
+use Rattle.std.proofs.Common.{◌≡◌, ◌∙◌, ◌⊎◌, ℕ, ℤ, ◌<◌, ◌≤◌, ◌^◌, inl, inr, List, [], length, Option, None, Some}
+use Rattle.std.proofs.Common.{MatchOption, refl, sym, ap, subst, arith}
 use Rattle.std.specs.Prelude.{sum_by}
 use Rattle.halo_outside.specs.Seen.{count_after, Rose, SourceSeen, SinkSeen}
 use Rattle.plan_core.specs.declared.types.Plan.{Plan}
@@ -19,7 +20,9 @@ use Rattle.heap_trace.specs.Traces.{Traces}
 use Rattle.plan_making.specs.Plans.{IsPlanFor}
 use Rattle.rv_build.specs.Generated.{generated}
 use Rattle.endings.specs.declared.endings.Ending.{Ending}
-use Rattle.endings.specs.declared.endings.Ending.TheVariants.{Done, File, Plan as BadPlan, Profile as BadProfile, ReadFault, WriteFault, Memory, Usage, Exited, StillRunning, Fault, Illegal}
+use Rattle.endings.specs.declared.endings.Ending.TheVariants.{Done, File, Plan as BadPlan, Profile as BadProfile}
+use Rattle.endings.specs.declared.endings.Ending.TheVariants.{ReadFault, WriteFault, Memory, Usage, Exited}
+use Rattle.endings.specs.declared.endings.Ending.TheVariants.{StillRunning, Fault, Illegal}
 use Rattle.endings.specs.declared.endings.BadFile.TheVariants.{Refused}
 use Rattle.flat_spec.specs.Machine.{start}
 use Rattle.flat_machine.specs.Seen.{FlatSeen, between}
@@ -34,7 +37,8 @@ use Rattle.halo_cli.proofs.FlatRuns.{flat_ran}
 use Rattle.halo_cli.specs.Writing.{IsStop}
 use Rattle.halo_cli.specs.Runs.{Run, IsRunEnd, RunsTo, RanTo}
 use Rattle.halo_cli.specs.Profiling.{area_run, ComesBehind, IsProfileBy, RunProfiled, RunStopped, FileStops}
-use Rattle.halo_cli.specs.SelfRun.{default_area, default_options, self_distance, most_steps, IsSourceEnd, IsNewEnd, SelfMade, BehindSource, SelfEndsBy, SelfWritten, self_text}
+use Rattle.halo_cli.specs.SelfRun.{default_area, default_options, self_distance, most_steps, IsSourceEnd, IsNewEnd}
+use Rattle.halo_cli.specs.SelfRun.{SelfMade, BehindSource, SelfEndsBy, SelfWritten, self_text}
 
 -- the outside of a run whose input is this source and whose output is this sink
 abbrev pub alone : SourceSeen → SinkSeen → Outside

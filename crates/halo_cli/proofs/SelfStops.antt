@@ -19,7 +19,8 @@ use Rattle.halo_cli.specs.Writing.{IsStop}
 use Rattle.halo_cli.specs.Options.{Policies, default_policy, place_named}
 use Rattle.halo_cli.specs.Generate.{nodes_in}
 use Rattle.halo_cli.specs.Profiling.{ComesBehind}
-use Rattle.halo_cli.specs.SelfRun.{IsSourceEnd, IsNewEnd, SelfMade, BehindSource, SelfEndsBy, SelfBrings, SelfWritten, self_entry}
+use Rattle.halo_cli.specs.SelfRun.{IsSourceEnd, IsNewEnd, SelfMade, BehindSource, SelfEndsBy, SelfBrings, SelfWritten}
+use Rattle.halo_cli.specs.SelfRun.{self_entry}
 use Rattle.halo_cli.specs.Ends.{EndsOf}
 use Rattle.halo_cli.proofs.ReadsDue.{has_cause}
 use Rattle.halo_cli.proofs.Stopping.{moves_of, no_read, no_write, stop_leaves, stop_cause_of}

@@ -2,7 +2,8 @@
 use Rattle.std.proofs.Common.{◌≢◌, ℕ, inl, inr, List, refl, arith}
 use Rattle.halo_outside.specs.Seen.{FilesSeen, SourceSeen, SinkSeen, Rose}
 use Rattle.endings.specs.declared.endings.Ending.{Ending}
-use Rattle.endings.specs.declared.endings.Ending.TheVariants.{Done, Exited, Usage, File, Plan, Profile, ReadFault, WriteFault, Memory, StillRunning, Fault, Illegal}
+use Rattle.endings.specs.declared.endings.Ending.TheVariants.{Done, Exited, Usage, File, Plan, Profile, ReadFault}
+use Rattle.endings.specs.declared.endings.Ending.TheVariants.{WriteFault, Memory, StillRunning, Fault, Illegal}
 use Rattle.halo_words.specs.Grammar.{Given, Asked}
 use Rattle.halo_cli.specs.World.{Outside, OnlyReads, OnlyWrites, OnlyMoves}
 use Rattle.halo_cli.specs.Reads.{HasReadCause}

@@ -16,7 +16,8 @@ use Rattle.sym_machine.specs.Asks.{asks}
 use Rattle.sym_machine.specs.Ends.{run_end}
 use Rattle.sym_machine.specs.Programs.{Program}
 use Rattle.sym_machine.specs.Seen.{SymSeen, between}
-use Rattle.sym_machine.specs.Runs.{run_from, program_at, EndsAt, WroteLast as WroteAt, GrantsAfter, StopsAt, Answers, Leaves, Ran, EndsAs}
+use Rattle.sym_machine.specs.Runs.{run_from, program_at, EndsAt, WroteLast as WroteAt, GrantsAfter, StopsAt, Answers}
+use Rattle.sym_machine.specs.Runs.{Leaves, Ran, EndsAs}
 use Rattle.halo_cli.specs.World.{Outside}
 use Rattle.halo_cli.specs.Runs.{ending_at, RanTo}
 use Rattle.halo_cli.specs.RunEnds.{ending_of_symbols}

@@ -1,5 +1,6 @@
 -- What is told brings `symbols` to one ending, and what was read brings it there.
-use Rattle.std.proofs.Common.{◌≡◌, ◌≢◌, ◌∙◌, ℕ, zero, suc, ◌+◌, ◌<◌, inl, inr, ⊎_elim, List, [], Option, Some, refl, sym, subst, arith}
+use Rattle.std.proofs.Common.{◌≡◌, ◌≢◌, ◌∙◌, ℕ, zero, suc, ◌+◌, ◌<◌, inl, inr, ⊎_elim, List, [], Option, Some, refl}
+use Rattle.std.proofs.Common.{sym, subst, arith}
 use Rattle.std.proofs.lemmas.Bool.{cases_order}
 use Rattle.halo_outside.specs.Seen.{Contents, contents_of}
 use Rattle.plan_core.specs.declared.types.Plan.{Plan}
@@ -13,9 +14,11 @@ use Rattle.endings.specs.declared.endings.Ending.TheVariants.{Done, ReadFault}
 use Rattle.halo_words.specs.Grammar.{operand_in}
 use Rattle.halo_cli.specs.World.{Outside}
 use Rattle.halo_cli.specs.Runs.{InputEnds, RunsTo, steps_in}
-use Rattle.halo_cli.specs.Symbols.{symbol_run, TextRuns, SymbolsCome, SymbolsBring, run_of_planned, LoadsPlanned, IsPlanned, symbols_entry}
+use Rattle.halo_cli.specs.Symbols.{symbol_run, TextRuns, SymbolsCome, SymbolsBring, run_of_planned, LoadsPlanned}
+use Rattle.halo_cli.specs.Symbols.{IsPlanned, symbols_entry}
 use Rattle.halo_cli.proofs.CommandLaws.{MayWrite, Laws}
-use Rattle.halo_cli.proofs.PlanAndFileDue.{TextsOnce, text_once, text_follows, text_known, of_text, of_both, both_once, both_told, both_lack, of_read_both}
+use Rattle.halo_cli.proofs.PlanAndFileDue.{TextsOnce, text_once, text_follows, text_known, of_text, of_both, both_once}
+use Rattle.halo_cli.proofs.PlanAndFileDue.{both_told, both_lack, of_read_both}
 use Rattle.halo_cli.proofs.RunsOnce.{GoesOn, input_once, input_writes, known_run, never_done, never_fails}
 use Rattle.halo_cli.proofs.RunLaws.{run_leaves_done, run_leaves_silent, run_leaves_lacks}
 

@@ -1,16 +1,19 @@
 -- The lines that are taken: they ask for one thing, and words with a wrong one are none.
-use Rattle.std.proofs.Common.{◌≡◌, ◌∙◌, ℕ, ◌==◌, ◌≤◌, inl, inr, true, false, List, [], ◌∷◌, length, Option, None, Some, codes, refl, sym, ap, subst, arith}
+use Rattle.std.proofs.Common.{◌≡◌, ◌∙◌, ℕ, ◌==◌, ◌≤◌, inl, inr, true, false, List, [], ◌∷◌, length, Option, None, Some}
+use Rattle.std.proofs.Common.{codes, refl, sym, ap, subst, arith}
 use Rattle.std.specs.Prelude.{bytes_eq, is_some, unwrap_or}
 use Rattle.std.proofs.lemmas.Bool.{both_ways, and_parts}
 use Rattle.std.proofs.lemmas.Bool.Decides.{nat_tests}
 use Rattle.text_fields.specs.Reading.{number_of}
 use Rattle.halo_words.specs.declared.forms.Kind.TheVariants.{Number, Name}
-use Rattle.halo_words.specs.Table.{Choice, Shape, fits, is_plain, has_kind, is_at_least, choice_named, shape_named, the_table, plan_choices, optimise_choices, file_name, profile_name, edge, policy}
+use Rattle.halo_words.specs.Table.{Choice, Shape, fits, is_plain, has_kind, is_at_least, choice_named, shape_named}
+use Rattle.halo_words.specs.Table.{the_table, plan_choices, optimise_choices, file_name, profile_name, edge, policy}
 use Rattle.halo_words.specs.Grammar.{Asked, AsksFor, IsLine, IsFirstWrong, option_in}
 use Rattle.halo_cli.specs.Options.{options_in, policy_in, default_policy, policy_of, place_named, has_policy}
 use Rattle.halo_cli.specs.Valid.{Passes, Asks, IsValid, IsLastWrong, IsWrongAt}
 
-module _ (asks_once : (words : List (List ℕ)) (a b : Asked) → AsksFor the_table words a → AsksFor the_table words b → a ≡ b)
+module _ (asks_once : (words : List (List ℕ)) (a b : Asked) → AsksFor the_table words a → AsksFor the_table words b
+    → a ≡ b)
     (first_wrong : (words : List (List ℕ)) (place : ℕ) → IsFirstWrong the_table words place → IsLine the_table words
     → ⊥) (names : List (List ℕ)) where
   pub valid_once : (words : List (List ℕ)) (a b : Asked) → Asks names words a → Asks names words b → a ≡ b

@@ -2,7 +2,8 @@
 use Rattle.std.specs.Prelude.{◌≡◌, ℕ, ◌≤◌, ◌⊎◌, List}
 use Rattle.halo_outside.specs.Seen.{Contents, Rose}
 use Rattle.endings.specs.declared.endings.Ending.{Ending}
-use Rattle.endings.specs.declared.endings.Ending.TheVariants.{Usage, File, Plan, Profile, ReadFault, StillRunning, Fault, Illegal}
+use Rattle.endings.specs.declared.endings.Ending.TheVariants.{Usage, File, Plan, Profile, ReadFault, StillRunning}
+use Rattle.endings.specs.declared.endings.Ending.TheVariants.{Fault, Illegal}
 use Rattle.endings.specs.declared.endings.BadFile.{BadFile}
 use Rattle.endings.specs.declared.endings.BadPlan.{BadPlan}
 use Rattle.endings.specs.declared.endings.BadProfile.{BadProfile}

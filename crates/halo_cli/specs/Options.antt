@@ -1,5 +1,6 @@
 -- The options of a line by their meaning: numbers, the heap's area, how groups are made, and the policy.
-use Rattle.std.specs.Prelude.{ℕ, ℤ, ◌==◌, ◌||◌, Bool, List, map, length, position, slice_get, Option, IfSome, is_some, unwrap_or, codes, bytes_eq, if◌then◌else◌}
+use Rattle.std.specs.Prelude.{ℕ, ℤ, ◌==◌, ◌||◌, Bool, List, map, length, position, slice_get, Option, IfSome, is_some}
+use Rattle.std.specs.Prelude.{unwrap_or, codes, bytes_eq, if◌then◌else◌}
 use Rattle.text_fields.specs.Reading.{number_of}
 use Rattle.plan_core.specs.declared.types.Area.{Area}
 use Rattle.group_policy.specs.declared.cut.Cut.{Cut}

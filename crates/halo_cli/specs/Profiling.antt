@@ -13,7 +13,8 @@ use Rattle.heap_trace.specs.declared.profiles.ProfileEnd.{ProfileEnd}
 use Rattle.heap_trace.specs.declared.profiles.ProfileEnd.TheVariants as end
 use Rattle.heap_trace.specs.Profiles.{plan_of_area, IsProfileOf, IsProfileOfTurns}
 use Rattle.endings.specs.declared.endings.Ending.{Ending}
-use Rattle.endings.specs.declared.endings.Ending.TheVariants.{Done, File, ReadFault, WriteFault, Memory, Exited, StillRunning, Fault, Illegal}
+use Rattle.endings.specs.declared.endings.Ending.TheVariants.{Done, File, ReadFault, WriteFault, Memory, Exited}
+use Rattle.endings.specs.declared.endings.Ending.TheVariants.{StillRunning, Fault, Illegal}
 use Rattle.endings.specs.declared.endings.BadFile.TheVariants.{Refused, TooLong}
 use Rattle.halo_words.specs.Grammar.{Given, operand_in}
 use Rattle.halo_cli.specs.World.{Outside}

@@ -5,7 +5,8 @@ use Rattle.machine_run.specs.declared.RunEnd.TheVariants as end
 use Rattle.sym_machine.specs.declared.SymEnd.{SymEnd}
 use Rattle.sym_machine.specs.Ends.{run_end}
 use Rattle.endings.specs.declared.endings.Ending.{Ending}
-use Rattle.endings.specs.declared.endings.Ending.TheVariants.{ReadFault, WriteFault, Memory, Exited, StillRunning, Fault, Illegal}
+use Rattle.endings.specs.declared.endings.Ending.TheVariants.{ReadFault, WriteFault, Memory, Exited, StillRunning}
+use Rattle.endings.specs.declared.endings.Ending.TheVariants.{Fault, Illegal}
 
 -- by the answer of a run of at most so many steps
 abbrev pub ending_of_run : RunEnd → ℕ → Ending

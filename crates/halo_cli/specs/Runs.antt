@@ -5,7 +5,8 @@ use Rattle.halo_outside.specs.Seen.{Rose, Appends, AppendsPrefix}
 use Rattle.machine_spec.specs.declared.Ending as machine_ending
 use Rattle.machine_spec.specs.declared.Ending.TheVariants as machine
 use Rattle.endings.specs.declared.endings.Ending.{Ending}
-use Rattle.endings.specs.declared.endings.Ending.TheVariants.{ReadFault, WriteFault, Memory, Exited, StillRunning, Fault, Illegal}
+use Rattle.endings.specs.declared.endings.Ending.TheVariants.{ReadFault, WriteFault, Memory, Exited, StillRunning}
+use Rattle.endings.specs.declared.endings.Ending.TheVariants.{Fault, Illegal}
 use Rattle.text_fields.specs.Reading.{number_of}
 use Rattle.halo_words.specs.Grammar.{Given, option_in}
 use Rattle.halo_cli.specs.World.{Outside, World}

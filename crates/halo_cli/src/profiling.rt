@@ -9,7 +9,8 @@ ghost use Rattle.halo_words.specs.Grammar.{operand_in};
 ghost use Rattle.halo_cli.specs.Options.{area_in};
 ghost use Rattle.halo_cli.specs.Reads.{AreFirstReads};
 ghost use Rattle.halo_cli.specs.Runs.{steps_in};
-ghost use Rattle.halo_cli.specs.Profiling.{AcceptsFile, FileStops, ProfilingCause, ProfilingStops, RunProfiled, distance_in, ending_of_profile, file_reads};
+ghost use Rattle.halo_cli.specs.Profiling.{AcceptsFile, FileStops, ProfilingCause, ProfilingStops, RunProfiled};
+ghost use Rattle.halo_cli.specs.Profiling.{distance_in, ending_of_profile, file_reads};
 ghost use Rattle.halo_cli.specs.World.{OnlyDraws, OnlyReads};
 
 use crate::limits::FILE_LIMIT;

@@ -1,5 +1,6 @@
 // `self N`: profiles the generated program, rewrites it by a plan of its profile, and runs it again.
-ghost use Rattle.std.specs.Prelude.{◌≡◌, ◌⊎◌, ◌≤◌, ◌<◌, ◌^◌, ◌++◌, List, [], ℕ, length, sum_by, map, codes, string_bytes, IfOk, IfErr, OnOk};
+ghost use Rattle.std.specs.Prelude.{◌≡◌, ◌⊎◌, ◌≤◌, ◌<◌, ◌^◌, ◌++◌, List, [], ℕ, length, sum_by, map, codes};
+ghost use Rattle.std.specs.Prelude.{string_bytes, IfOk, IfErr, OnOk};
 ghost use Rattle.halo_outside.specs.Seen.{FilesSeen, SourceSeen};
 ghost use Rattle.elf_read.specs.Elf.{IsReadable};
 ghost use Rattle.flat_spec.specs.Machine.{start as start_of};

@@ -1,5 +1,6 @@
 -- What contracts see of the outside: what an object tells, its counts, and what calls do to them.
-use Rattle.std.specs.Prelude.{◌≡◌, ℕ, ◌+◌, ◌-◌, ◌^◌, ◌<◌, ◌≤◌, min, List, [], ◌∷◌, ◌++◌, length, take, drop, Option, None, Some, is_some, IsSomeAnd, bytes_eq, if◌then◌else◌}
+use Rattle.std.specs.Prelude.{◌≡◌, ℕ, ◌+◌, ◌-◌, ◌^◌, ◌<◌, ◌≤◌, min, List, [], ◌∷◌, ◌++◌, length, take, drop, Option}
+use Rattle.std.specs.Prelude.{None, Some, is_some, IsSomeAnd, bytes_eq, if◌then◌else◌}
 use Rattle.std.specs.Io.KnownBytes.{append_known}
 
 -- named contents: the name and the bytes of each file

@@ -1,5 +1,6 @@
 // Files, a source and a sink in memory, whose calls fail where their maker says so.
-ghost use Rattle.std.specs.Prelude.{◌≡◌, ◌↔◌, ◌⊎◌, ◌<◌, ◌≤◌, ◌-◌, ◌++◌, [], Some, IsSome, IfOk, IfSome, IfNone, IsErr, IsErrOf, OnOk, OnErr, min, max, length, take};
+ghost use Rattle.std.specs.Prelude.{◌≡◌, ◌↔◌, ◌⊎◌, ◌<◌, ◌≤◌, ◌-◌, ◌++◌, [], Some, IsSome, IfOk, IfSome, IfNone, IsErr};
+ghost use Rattle.std.specs.Prelude.{IsErrOf, OnOk, OnErr, min, max, length, take};
 ghost use Rattle.halo_outside.specs.Seen.{contents_of, count_after, IsLonger, IsMoved};
 ghost use Rattle.halo_outside.specs.Memory.{first_call, after_call, FailsNow, IsFull};
 

@@ -1,6 +1,7 @@
 // What the program needs of the outside: named files, a source of bytes and a sink of bytes.
 ghost use Rattle.std.specs.Prelude.{◌≡◌, ◌⊎◌, ℕ, ◌<◌, ◌≤◌, [], take, length, IfOk, OnErr, IsErr, IsErrOf, MatchResult};
-ghost use Rattle.halo_outside.specs.Seen.{FilesSeen, SourceSeen, SinkSeen, count_after, Rose, IsToldAt, Lacks, IsLonger, IsTooLong, TellsAlike, Moves, Appends};
+ghost use Rattle.halo_outside.specs.Seen.{FilesSeen, SourceSeen, SinkSeen, count_after, Rose, IsToldAt, Lacks};
+ghost use Rattle.halo_outside.specs.Seen.{IsLonger, IsTooLong, TellsAlike, Moves, Appends};
 
 use crate::{Failed, FileFault};
 use std::alloc::Global;

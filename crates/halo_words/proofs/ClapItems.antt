@@ -1,5 +1,7 @@
 -- clap takes a line's words, and finds the value of each option and operand that the items give.
-use Rattle.std.proofs.Common.{◌≡◌, ◌∙◌, ◌||◌, ◌+◌, ◌<◌, ◌≤◌, ℕ, Bool, true, false, List, [], ◌∷◌, ◌++◌, length, map, take, slice_get, Some, codes, refl, sym, ap, subst, arith, append-nil, append_assoc, add-one}
+use Rattle.std.proofs.Common.{◌≡◌, ◌∙◌, ◌||◌, ◌+◌, ◌<◌, ◌≤◌, ℕ, Bool, true, false, List, [], ◌∷◌, ◌++◌, length, map}
+use Rattle.std.proofs.Common.{take, slice_get, Some, codes, refl, sym, ap, subst, arith, append-nil, append_assoc}
+use Rattle.std.proofs.Common.{add-one}
 use Rattle.std.specs.List.{list_all, list_any}
 use Rattle.std.specs.Option.{option_map_or}
 use Rattle.std.specs.Str.{bytes_eq}
@@ -9,12 +11,15 @@ use Rattle.std.proofs.lemmas.Slice.Eq.{bytes_eq-Decides}
 use Rattle.clap.specs.Walk.{Row, Held, idle, arg_by_id, has_row, settled}
 use Rattle.clap.specs.Takes.{walk_passes}
 use Rattle.halo_words.specs.Table.{Choice, Place, Shape, is_plain, has_kind, choice_named}
-use Rattle.halo_words.specs.Sound.{choice_name, place_name, is_sound_choice, is_sound_place, is_sound_shape, are_ids_apart, has_few_operands, is_name}
+use Rattle.halo_words.specs.Sound.{choice_name, place_name, is_sound_choice, is_sound_place, is_sound_shape}
+use Rattle.halo_words.specs.Sound.{are_ids_apart, has_few_operands, is_name}
 use Rattle.halo_words.specs.Grammar.{Item, is_among, line_of, Complete}
 use Rattle.halo_words.specs.Grammar.Item.{Apart, Joined, Operand}
 use Rattle.halo_words.proofs.ClapRules.{built_operand, built_rules, id_of_operand}
-use Rattle.halo_words.proofs.ClapWalk.{row, walk_at, Goes, goes_on, Holds, pends, has_used, operand_turn, joined_turn, apart_turn, value_turn, pending_option, used_option, pending_operand}
-use Rattle.halo_words.proofs.ClapIds.{true_or_false, choice_among, name_at, option_is_not_taken, operand_is_no_option, operand_is_not_taken}
+use Rattle.halo_words.proofs.ClapWalk.{row, walk_at, Goes, goes_on, Holds, pends, has_used, operand_turn, joined_turn}
+use Rattle.halo_words.proofs.ClapWalk.{apart_turn, value_turn, pending_option, used_option, pending_operand}
+use Rattle.halo_words.proofs.ClapIds.{true_or_false, choice_among, name_at, option_is_not_taken, operand_is_no_option}
+use Rattle.halo_words.proofs.ClapIds.{operand_is_not_taken}
 use Rattle.halo_words.proofs.Items.{choice_sound, name_sound, get_within}
 use Rattle.halo_words.proofs.LookUps.{among-append}
 use Rattle.halo_words.proofs.Loops.{take-get}

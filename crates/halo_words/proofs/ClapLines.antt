@@ -1,5 +1,6 @@
 -- A line that the grammar has is taken by clap, and the values that it finds are those of the items.
-use Rattle.std.proofs.Common.{◌≡◌, ◌∙◌, ◌&&◌, ◌||◌, ◌+◌, ◌<◌, ℕ, zero, suc, Bool, true, false, not, cond, List, [], ◌∷◌, ◌++◌, length, map, take, slice_get, Some, refl, sym, ap, subst, arith, zero-add}
+use Rattle.std.proofs.Common.{◌≡◌, ◌∙◌, ◌&&◌, ◌||◌, ◌+◌, ◌<◌, ℕ, zero, suc, Bool, true, false, not, cond, List, [], ◌∷◌}
+use Rattle.std.proofs.Common.{◌++◌, length, map, take, slice_get, Some, refl, sym, ap, subst, arith, zero-add}
 use Rattle.std.specs.Prelude.{find, fold, unwrap_or}
 use Rattle.std.specs.List.{list_all}
 use Rattle.std.specs.Option.{option_and_then}
@@ -7,19 +8,24 @@ use Rattle.std.specs.Str.{bytes_eq}
 use Rattle.std.proofs.lemmas.Slice.Eq.{bytes_eq-Decides}
 use Rattle.clap.specs.declared.parser.matches.Found.{Found}
 use Rattle.clap.specs.Matches.{first_value}
-use Rattle.clap.specs.Walk.{Rule, Row, Held, first_of, rows_of, has_row, settled, Walk, walk, walk_from, nothing_held, with_default, finished}
+use Rattle.clap.specs.Walk.{Rule, Row, Held, first_of, rows_of, has_row, settled, Walk, walk, walk_from, nothing_held}
+use Rattle.clap.specs.Walk.{with_default, finished}
 use Rattle.clap.specs.Simple.{App, is_simple, built, matches_of, names_of}
-use Rattle.clap.specs.Takes.{is_given, is_valid, default_passes, settle_passes, walk_passes, level_passes, built_takes, takes}
+use Rattle.clap.specs.Takes.{is_given, is_valid, default_passes, settle_passes, walk_passes, level_passes, built_takes}
+use Rattle.clap.specs.Takes.{takes}
 use Rattle.clap.proofs.TakesLemmas.{leaf_takes}
 use Rattle.clap.proofs.WalkLemmas.{first_value-rows}
 use Rattle.halo_words.specs.Table.{Choice, Place, Shape}
 use Rattle.halo_words.specs.Sound.{choice_name, place_name, is_sound_shape, are_ids_apart, has_few_operands}
-use Rattle.halo_words.specs.Grammar.{Item, Given, is_among, line_of, Complete, value_given, operands_of, option_by, given_by}
+use Rattle.halo_words.specs.Grammar.{Item, Given, is_among, line_of, Complete, value_given, operands_of, option_by}
+use Rattle.halo_words.specs.Grammar.{given_by}
 use Rattle.halo_words.specs.Grammar.Item.{Apart, Joined, Operand}
 use Rattle.halo_words.specs.Apps.{app_for, option_found, operand_found, given_found}
-use Rattle.halo_words.proofs.ClapRules.{built_option, operands_from, built_rules, built_shape, built_app, app_built, app_simple, each_rule, both_true}
+use Rattle.halo_words.proofs.ClapRules.{built_option, operands_from, built_rules, built_shape, built_app, app_built}
+use Rattle.halo_words.proofs.ClapRules.{app_simple, each_rule, both_true}
 use Rattle.halo_words.proofs.ClapWalk.{row}
-use Rattle.halo_words.proofs.ClapIds.{true_or_false, get_among, choice_among, name_at, operand_is_no_option, operand_is_not_taken}
+use Rattle.halo_words.proofs.ClapIds.{true_or_false, get_among, choice_among, name_at, operand_is_no_option}
+use Rattle.halo_words.proofs.ClapIds.{operand_is_not_taken}
 use Rattle.halo_words.proofs.ClapItems.{id_at, item_rows, Walks, walks, stands_at_start}
 use Rattle.halo_words.proofs.Items.{get_below, get_within}
 

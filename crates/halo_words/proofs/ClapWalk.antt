@@ -1,5 +1,6 @@
 -- The walk of clap over the words of a line's items: each turn passes, and leaves one more value.
-use Rattle.std.proofs.Common.{◌≡◌, ◌∙◌, ◌&&◌, ◌+◌, ◌<◌, ℕ, Bool, true, false, List, [], ◌∷◌, ◌++◌, slice_get, min, Some, None, codes, refl, sym, ap, subst, arith, append-nil}
+use Rattle.std.proofs.Common.{◌≡◌, ◌∙◌, ◌&&◌, ◌+◌, ◌<◌, ℕ, Bool, true, false, List, [], ◌∷◌, ◌++◌, slice_get, min, Some}
+use Rattle.std.proofs.Common.{None, codes, refl, sym, ap, subst, arith, append-nil}
 use Rattle.std.specs.Prelude.{fold}
 use Rattle.std.specs.Str.{bytes_eq}
 use Rattle.std.proofs.lemmas.Slice.Eq.{bytes_eq-Decides}
@@ -7,12 +8,15 @@ use Rattle.clap.specs.declared.parser.matches.ValueSource.TheVariants.{CommandLi
 use Rattle.clap.specs.declared.builder.value_parser.ValueParser.TheVariants as vp
 use Rattle.clap.specs.Lexer.{usize_max, long_of, short_of}
 use Rattle.clap.specs.Values.{reading_of}
-use Rattle.clap.specs.Walk.{Row, Held, Waiting, Walk, idle, option, arg_by_id, arg_by_long, arg_by_index, has_row, at_row, more_values, without, with_values, is_pending, settled, walked}
+use Rattle.clap.specs.Walk.{Row, Held, Waiting, Walk, idle, option, arg_by_id, arg_by_long, arg_by_index, has_row}
+use Rattle.clap.specs.Walk.{at_row, more_values, without, with_values, is_pending, settled, walked}
 use Rattle.clap.specs.Takes.{settle_passes, turn_passes, walk_passes}
 use Rattle.halo_words.specs.Table.{Choice, Place, Shape, is_plain, choice_named}
 use Rattle.halo_words.specs.Sound.{is_name}
-use Rattle.halo_words.proofs.ClapWords.{no_dashes, no_long, no_short, long_apart, long_joined, apart_is_no_end, joined_is_no_end}
-use Rattle.halo_words.proofs.ClapRules.{built_option, built_operand, operands_from, built_rules, built_shape, long_found, id_found, index_of_operand, both_true}
+use Rattle.halo_words.proofs.ClapWords.{no_dashes, no_long, no_short, long_apart, long_joined, apart_is_no_end}
+use Rattle.halo_words.proofs.ClapWords.{joined_is_no_end}
+use Rattle.halo_words.proofs.ClapRules.{built_option, built_operand, operands_from, built_rules, built_shape}
+use Rattle.halo_words.proofs.ClapRules.{long_found, id_found, index_of_operand, both_true}
 
 -- what was found for an argument with one value
 abbrev pub row : List ℕ → List ℕ → Row

@@ -1,5 +1,6 @@
 -- Each value that a line gives is one that its option or operand may have.
-use Rattle.std.proofs.Common.{◌≡◌, ◌∙◌, ◌+◌, ℕ, zero, suc, Bool, true, false, List, [], ◌∷◌, ◌++◌, map, slice_get, Option, Some, None, option_map, refl, sym, ap, subst, arith}
+use Rattle.std.proofs.Common.{◌≡◌, ◌∙◌, ◌+◌, ℕ, zero, suc, Bool, true, false, List, [], ◌∷◌, ◌++◌, map, slice_get}
+use Rattle.std.proofs.Common.{Option, Some, None, option_map, refl, sym, ap, subst, arith}
 use Rattle.std.specs.Prelude.{unwrap_or}
 use Rattle.std.specs.List.{list_all}
 use Rattle.std.specs.Str.{bytes_eq}
@@ -7,7 +8,8 @@ use Rattle.std.proofs.lemmas.Bool.{and_parts}
 use Rattle.std.proofs.lemmas.Slice.Eq.{bytes_eq-Decides}
 use Rattle.halo_words.specs.Table.{Choice, Place, Shape, fits, choice_named, shape_named, the_table}
 use Rattle.halo_words.specs.Sound.{is_name, is_sound_choice, is_sound_place, is_sound_shape}
-use Rattle.halo_words.specs.Grammar.{Item, Asked, Gives, Complete, value_given, operands_of, option_by, given_by, value_in, option_in, operand_in, AsksFor}
+use Rattle.halo_words.specs.Grammar.{Item, Asked, Gives, Complete, value_given, operands_of, option_by, given_by}
+use Rattle.halo_words.specs.Grammar.{value_in, option_in, operand_in, AsksFor}
 use Rattle.halo_words.specs.Grammar.Item.{Apart, Joined, Operand}
 use Rattle.halo_words.proofs.ClapIds.{true_or_false}
 use Rattle.halo_words.proofs.Items.{choice_sound, get_within}

@@ -1,5 +1,7 @@
 -- Items and the words that they are: what is complete ends a line, and what ends a line is complete items.
-use Rattle.std.proofs.Common.{◌≡◌, ◌∙◌, ◌+◌, ◌==◌, ◌||◌, ◌≤◌, ◌<◌, ℕ, zero, suc, Bool, true, false, not, cond, List, [], ◌∷◌, ◌++◌, length, slice_get, Option, Some, None, codes, refl, sym, ap, subst, arith, append-nil, ◌-◌}
+use Rattle.std.proofs.Common.{◌≡◌, ◌∙◌, ◌+◌, ◌==◌, ◌||◌, ◌≤◌, ◌<◌, ℕ, zero, suc, Bool, true, false, not, cond, List, []}
+use Rattle.std.proofs.Common.{◌∷◌, ◌++◌, length, slice_get, Option, Some, None, codes, refl, sym, ap, subst, arith}
+use Rattle.std.proofs.Common.{append-nil, ◌-◌}
 use Rattle.std.specs.List.{list_all}
 use Rattle.std.specs.Str.{bytes_eq}
 use Rattle.std.proofs.lemmas.Bool.{and_parts}
@@ -11,8 +13,10 @@ use Rattle.halo_words.specs.Table.{Choice, Place, Shape, fits, is_plain, has_kin
 use Rattle.halo_words.specs.Sound.{is_name, is_sound_choice, is_sound_place, is_sound_shape, example}
 use Rattle.halo_words.specs.Grammar.{Item, is_among, line_of, Gives, IsOperand, Complete}
 use Rattle.halo_words.specs.Grammar.Item.{Apart, Joined, Operand}
-use Rattle.halo_words.specs.Reading.{Reading, idle, named, operand_met, apart_met, joined_met, option_met, idle_met, met, step, read_on, is_end, Ends}
-use Rattle.halo_words.proofs.Fronts.{dashes, behind_dashes, plain_has_none, apart_uncut, joined_cut, named_apart, named_joined, named_plain, cut_parts}
+use Rattle.halo_words.specs.Reading.{Reading, idle, named, operand_met, apart_met, joined_met, option_met, idle_met}
+use Rattle.halo_words.specs.Reading.{met, step, read_on, is_end, Ends}
+use Rattle.halo_words.proofs.Fronts.{dashes, behind_dashes, plain_has_none, apart_uncut, joined_cut, named_apart}
+use Rattle.halo_words.proofs.Fronts.{named_joined, named_plain, cut_parts}
 use Rattle.halo_words.proofs.LookUps.{all_at}
 
 -- ---- what is found in a sound command

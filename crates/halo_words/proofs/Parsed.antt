@@ -1,5 +1,6 @@
 -- A line of the table is taken by clap, and what it finds is what the line asks for.
-use Rattle.std.proofs.Common.{◌≡◌, ◌∙◌, Bool, true, false, List, None, option_map, [], ◌∷◌, ◌++◌, ℕ, map, Some, refl, sym, ap, subst, append-nil, append_assoc}
+use Rattle.std.proofs.Common.{◌≡◌, ◌∙◌, Bool, true, false, List, None, option_map, [], ◌∷◌, ◌++◌, ℕ, map, Some, refl}
+use Rattle.std.proofs.Common.{sym, ap, subst, append-nil, append_assoc}
 use Rattle.std.specs.Prelude.{unwrap_or}
 use Rattle.std.specs.Str.{bytes_eq}
 use Rattle.std.proofs.lemmas.Bool.{and_parts}

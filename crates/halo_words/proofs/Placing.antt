@@ -1,5 +1,6 @@
 -- The place of a value in words is that in their items.
-use Rattle.std.proofs.Common.{◌≡◌, ◌∙◌, ◌+◌, ◌<◌, ◌≤◌, ℕ, zero, suc, Bool, true, false, List, [], ◌∷◌, ◌++◌, length, drop, slice_get, Option, Some, None, codes, refl, sym, ap, add-one, arith}
+use Rattle.std.proofs.Common.{◌≡◌, ◌∙◌, ◌+◌, ◌<◌, ◌≤◌, ℕ, zero, suc, Bool, true, false, List, [], ◌∷◌, ◌++◌, length}
+use Rattle.std.proofs.Common.{drop, slice_get, Option, Some, None, codes, refl, sym, ap, add-one, arith}
 use Rattle.std.specs.Prelude.{unwrap_or, if◌then◌else◌}
 use Rattle.std.specs.Str.{bytes_eq}
 use Rattle.std.proofs.lemmas.Bool.{and_parts}
@@ -45,7 +46,8 @@ module _ (name : List ℕ) (shape : Shape) (sound : is_sound_shape shape ≡ tru
   place_in_items [] seen count at complete = refl
   place_in_items (Apart given value ∷ items) seen count at ((fresh, (choice, is, fit)), rest) =
       let plain = (and_parts (is_plain value) (has_kind choice.kind value) fit).0 in
-      apart_here given value at (line_of items) _ (bytes_eq given name) refl (name_sound shape sound given choice is) plain
+      apart_here given value at (line_of items) _ (bytes_eq given name) refl (name_sound shape sound given choice is)
+      plain
       (place_in_items items (seen ++ given ∷ []) count (at + 2) rest)
   place_in_items (Joined given value ∷ items) seen count at ((fresh, (choice, is, fit)), rest) =
       joined_here given value at (line_of items) _ (bytes_eq given name) refl (name_sound shape sound given choice is)

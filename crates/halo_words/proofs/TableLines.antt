@@ -1,5 +1,7 @@
 -- Lines of a table: what a command's words come to is what the grammar says of the line.
-use Rattle.std.proofs.Common.{◌≡◌, ◌∙◌, ◌+◌, ◌&&◌, ℕ, suc, inl, inr, ⊎_elim, Bool, true, false, List, [], ◌∷◌, ◌++◌, take, drop, slice_get, Option, Some, None, codes, refl, sym, ap, subst, arith, add-one, take-append-drop}
+use Rattle.std.proofs.Common.{◌≡◌, ◌∙◌, ◌+◌, ◌&&◌, ℕ, suc, inl, inr, ⊎_elim, Bool, true, false, List, [], ◌∷◌, ◌++◌}
+use Rattle.std.proofs.Common.{take, drop, slice_get, Option, Some, None, codes, refl, sym, ap, subst, arith, add-one}
+use Rattle.std.proofs.Common.{take-append-drop}
 use Rattle.std.specs.Fmt.{digits}
 use Rattle.std.specs.Str.{bytes_eq}
 use Rattle.std.proofs.lemmas.Slice.Eq.{bytes_eq-Decides}
@@ -8,7 +10,8 @@ use Rattle.std.proofs.lemmas.List.{take_all}
 use Rattle.text_fields.specs.Reading.{after_front, cut_at, number_of}
 use Rattle.halo_words.specs.Table.{Shape, is_plain, has_kind, shape_named, the_table, file_name}
 use Rattle.halo_words.specs.Sound.{is_short_shape, is_sound_shape, is_parsed_shape, is_sound_table}
-use Rattle.halo_words.specs.Grammar.{Item, Asked, line_of, Complete, given_by, IsLineOf, IsLineFor, AsksFor, IsLine, BeginsLine, IsFirstWrong}
+use Rattle.halo_words.specs.Grammar.{Item, Asked, line_of, Complete, given_by, IsLineOf, IsLineFor, AsksFor, IsLine}
+use Rattle.halo_words.specs.Grammar.{BeginsLine, IsFirstWrong}
 use Rattle.halo_words.specs.Grammar.Item.{Apart, Joined, Operand}
 use Rattle.halo_words.specs.Reading.{Reading, idle, step, read_on, is_end, Ends, StopsAt}
 use Rattle.halo_words.proofs.Fronts.{dashes, plain_has_none, apart_uncut, joined_cut}

@@ -1,5 +1,6 @@
 -- The grammar of the command line, over a table of commands: what a line of words asks for, and its first wrong word.
-use Rattle.std.specs.Prelude.{◌≡◌, ℕ, ◌+◌, ◌⊎◌, Bool, true, false, List, [], ◌∷◌, ◌++◌, length, take, map, slice_get, Option, Some, None, unwrap_or, codes, bytes_eq, if◌then◌else◌, string_bytes, String}
+use Rattle.std.specs.Prelude.{◌≡◌, ℕ, ◌+◌, ◌⊎◌, Bool, true, false, List, [], ◌∷◌, ◌++◌, length, take, map, slice_get}
+use Rattle.std.specs.Prelude.{Option, Some, None, unwrap_or, codes, bytes_eq, if◌then◌else◌, string_bytes, String}
 use Rattle.std.specs.declared.alloc.Global.{Global}
 use Rattle.halo_words.specs.Table.{Choice, Place, Shape, fits, choice_named, shape_named}
 

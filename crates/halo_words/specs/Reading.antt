@@ -1,5 +1,6 @@
 -- How the words behind a command are read, one after the other.
-use Rattle.std.specs.Prelude.{◌≡◌, ℕ, ◌+◌, ◌==◌, ◌&&◌, ◌||◌, ◌⊎◌, Bool, true, false, not, List, [], ◌∷◌, ◌++◌, length, take, slice_get, Option, Some, None, is_some, option_map, codes, bytes_eq, if◌then◌else◌}
+use Rattle.std.specs.Prelude.{◌≡◌, ℕ, ◌+◌, ◌==◌, ◌&&◌, ◌||◌, ◌⊎◌, Bool, true, false, not, List, [], ◌∷◌, ◌++◌, length}
+use Rattle.std.specs.Prelude.{take, slice_get, Option, Some, None, is_some, option_map, codes, bytes_eq, if◌then◌else◌}
 use Rattle.text_fields.specs.Reading.{after_front, cut_at, ◌>>=◌}
 use Rattle.halo_words.specs.Table.{Choice, Place, Shape, fits, choice_named, choice_of}
 use Rattle.halo_words.specs.Grammar.{is_among}

@@ -1,5 +1,6 @@
 -- What a table of commands must be for its lines to be read: tests that compute over the whole table.
-use Rattle.std.specs.Prelude.{ℕ, ◌==◌, ◌&&◌, ◌^◌, Bool, true, not, nat_lt, nat_le, List, [], ◌∷◌, ◌++◌, length, map, Option, None, Some, codes}
+use Rattle.std.specs.Prelude.{ℕ, ◌==◌, ◌&&◌, ◌^◌, Bool, true, not, nat_lt, nat_le, List, [], ◌∷◌, ◌++◌, length, map}
+use Rattle.std.specs.Prelude.{Option, None, Some, codes}
 use Rattle.std.specs.List.{list_all, list_any}
 use Rattle.std.specs.Fmt.{decimal}
 use Rattle.halo_words.specs.declared.forms.Kind.{Kind}

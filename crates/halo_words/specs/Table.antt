@@ -1,5 +1,6 @@
 -- What a command takes: its word, its options and its operands; and the table of all commands.
-use Rattle.std.specs.Prelude.{ℕ, ◌==◌, ◌&&◌, Bool, true, false, not, nat_le, List, [], ◌∷◌, map, Option, None, Some, codes, bytes_eq, if◌then◌else◌}
+use Rattle.std.specs.Prelude.{ℕ, ◌==◌, ◌&&◌, Bool, true, false, not, nat_le, List, [], ◌∷◌, map, Option, None, Some}
+use Rattle.std.specs.Prelude.{codes, bytes_eq, if◌then◌else◌}
 use Rattle.text_fields.specs.Reading.{number_of}
 use Rattle.halo_words.specs.declared.forms.Kind.{Kind}
 use Rattle.halo_words.specs.declared.forms.Kind.TheVariants.{Number, Name}

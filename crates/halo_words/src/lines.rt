@@ -1,5 +1,6 @@
 // A line of words: its command, and whether it is a line of the table.
-ghost use Rattle.std.specs.Prelude.{◌≡◌, ◌<◌, ◌∷◌, [], length, map, option_map, slice_get, Some, IfOk, IfErr, IfSome, IfNone};
+ghost use Rattle.std.specs.Prelude.{◌≡◌, ◌<◌, ◌∷◌, [], length, map, option_map, slice_get, Some, IfOk, IfErr, IfSome};
+ghost use Rattle.std.specs.Prelude.{IfNone};
 ghost use Rattle.halo_words.specs.Table.{the_table, shape_of, shape_named};
 ghost use Rattle.halo_words.specs.Grammar.{texts, IsLineFor, IsFirstWrong};
 

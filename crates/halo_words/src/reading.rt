@@ -1,10 +1,14 @@
 // The reader of a line: one word after the other, without taking memory.
-ghost use Rattle.std.specs.Prelude.{◌≡◌, ◌<◌, ◌≤◌, ◌++◌, [], ℕ, List, true, length, map, codes, IfErr, IfSome, OnOk, option_map, slice_get, Some};
+ghost use Rattle.std.specs.Prelude.{◌≡◌, ◌<◌, ◌≤◌, ◌++◌, [], ℕ, List, true, length, map, codes, IfErr, IfSome, OnOk};
+ghost use Rattle.std.specs.Prelude.{option_map, slice_get, Some};
 ghost use Rattle.text_fields.specs.Reading.{Finds, after_front, cut_at};
-ghost use Rattle.halo_words.specs.Table.{fits as fits_kind, has_kind as has_kind_of, choice_of, place_of, shape_of, choice_named};
-ghost use Rattle.halo_words.specs.Sound.{is_short, is_short_option, is_short_shape, are_short_choices, are_short_places};
+ghost use Rattle.halo_words.specs.Table.{fits as fits_kind, has_kind as has_kind_of, choice_of, place_of, shape_of};
+ghost use Rattle.halo_words.specs.Table.{choice_named};
+ghost use Rattle.halo_words.specs.Sound.{is_short, is_short_option, is_short_shape, are_short_choices};
+ghost use Rattle.halo_words.specs.Sound.{are_short_places};
 ghost use Rattle.halo_words.specs.Grammar.{texts, is_among};
-ghost use Rattle.halo_words.specs.Reading.{Ends, StopsAt, idle, is_end, named, front_name, names_in, reading_of, operand_met, option_met, step as step_of};
+ghost use Rattle.halo_words.specs.Reading.{Ends, StopsAt, idle, is_end, named, front_name, names_in, reading_of};
+ghost use Rattle.halo_words.specs.Reading.{operand_met, option_met, step as step_of};
 
 use crate::forms::{Form, Kind, Operand, Setting};
 use text_fields::{cut, expect, number};

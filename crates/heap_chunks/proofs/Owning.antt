@@ -1,5 +1,6 @@
 -- The second rule: a block in the lowest chunk without owner.
-use Rattle.std.proofs.Common.{◌≡◌, ◌≢◌, ℕ, ◌+◌, ◌*◌, ◌^◌, ◌<◌, ◌≤◌, ◌⊎◌, true, false, length, get_or, set, refl, ap, sym, ◌∙◌, subst, inl, inr, arith}
+use Rattle.std.proofs.Common.{◌≡◌, ◌≢◌, ℕ, ◌+◌, ◌*◌, ◌^◌, ◌<◌, ◌≤◌, ◌⊎◌, true, false, length, get_or, set, refl, ap}
+use Rattle.std.proofs.Common.{sym, ◌∙◌, subst, inl, inr, arith}
 use Rattle.std.specs.Prelude.{Option, Some, None, is_none, not, nat_lt, slice_set}
 use Rattle.std.specs.List.{position_or_len}
 use Rattle.std.proofs.lemmas.Bool.{cases_eq}
@@ -22,7 +23,8 @@ use Rattle.heap_spec.specs.Tables.{Spells, none_word, word_or_none}
 use Rattle.frag_code.specs.Fragments.{Compute, If}
 use Rattle.frag_code.specs.Meaning.{View, put, frag_run}
 use Rattle.frag_code.specs.Ends.{Ends}
-use Rattle.frag_code.proofs.Rules.{view, ends_so, seq_ends, skip_ends, compute_ends, imm_then, compute_then, store_then, if_taken, if_other}
+use Rattle.frag_code.proofs.Rules.{view, ends_so, seq_ends, skip_ends, compute_ends, imm_then, compute_then, store_then}
+use Rattle.frag_code.proofs.Rules.{if_taken, if_other}
 use Rattle.frag_rules.proofs.Values.{sum_is, add_is, sub_is, right_is, over_16, plus_is, eq_yes, eq_no}
 use Rattle.frag_rules.proofs.Spans.{put_here, put_there}
 use Rattle.heap_chunks.specs.Chunks.{own_chunk, place_fresh}

@@ -1,5 +1,6 @@
 -- The first two rules together.
-use Rattle.std.proofs.Common.{◌≡◌, ℕ, ◌+◌, ◌*◌, ◌^◌, ◌<◌, ◌≤◌, Bool, true, false, cond, refl, ap, sym, ◌∙◌, subst, arith}
+use Rattle.std.proofs.Common.{◌≡◌, ℕ, ◌+◌, ◌*◌, ◌^◌, ◌<◌, ◌≤◌, Bool, true, false, cond, refl, ap, sym, ◌∙◌, subst}
+use Rattle.std.proofs.Common.{arith}
 use Rattle.std.specs.Prelude.{Option, Some, None, nat_le, option_and_then}
 use Rattle.std.specs.Option.{option_or}
 use Rattle.std.proofs.lemmas.Bool.Decides.{nat_tests}
@@ -17,7 +18,8 @@ use Rattle.heap_spec.specs.Tables.{Spells, none_word, word_or_none}
 use Rattle.frag_code.specs.Fragments.{If, Load, Seq}
 use Rattle.frag_code.specs.Meaning.{View, put, frag_run}
 use Rattle.frag_code.specs.Ends.{Ends}
-use Rattle.frag_code.proofs.Rules.{view, ends_so, seq_ends, skip_ends, compute_ends, imm_then, compute_then, load_then, if_ends, if_taken, if_other}
+use Rattle.frag_code.proofs.Rules.{view, ends_so, seq_ends, skip_ends, compute_ends, imm_then, compute_then, load_then}
+use Rattle.frag_code.proofs.Rules.{if_ends, if_taken, if_other}
 use Rattle.frag_rules.proofs.Values.{add_is, times_16, plus_is, eq_yes, eq_no, ltu_true, ltu_false}
 use Rattle.heap_chunks.specs.Chunks.{place_fresh, place_owned}
 use Rattle.heap_chunks.specs.Results.{HasRoom, Settled, table_rights, Tried, chunk_spot, PlacesHigh}

@@ -1,5 +1,6 @@
 -- The release of a block in a chunk.
-use Rattle.std.proofs.Common.{◌≡◌, ◌≢◌, ℕ, zero, suc, ◌+◌, ◌-◌, ◌*◌, ◌/◌, ◌^◌, ◌<◌, ◌≤◌, ◌⊎◌, true, false, refl, ap, sym, ◌∙◌, subst, inl, inr, arith}
+use Rattle.std.proofs.Common.{◌≡◌, ◌≢◌, ℕ, zero, suc, ◌+◌, ◌-◌, ◌*◌, ◌/◌, ◌^◌, ◌<◌, ◌≤◌, ◌⊎◌, true, false, refl, ap}
+use Rattle.std.proofs.Common.{sym, ◌∙◌, subst, inl, inr, arith}
 use Rattle.std.specs.Prelude.{[], ◌∷◌, Option, Some, None, nat_lt, slice_set}
 use Rattle.std.proofs.lemmas.Bool.{cases_eq, eq-eqb, ne_eqb}
 use Rattle.std.proofs.lemmas.Bool.Decides.{nat_tests}
@@ -9,7 +10,8 @@ use Rattle.plan_core.specs.declared.types.Area.{Area}
 use Rattle.plan_core.specs.Plan.{granules}
 use Rattle.place_spec.specs.declared.parts.Chunk.{Chunk}
 use Rattle.place_spec.specs.Layout.{Block, Layout, current_of, chunk_of, chunk_size}
-use Rattle.place_spec.specs.Release.{block_at, released, released_block, freed, left_chunk, left_with, is_current, is_chunk, without_block, chunk_at}
+use Rattle.place_spec.specs.Release.{block_at, released, released_block, freed, left_chunk, left_with, is_current}
+use Rattle.place_spec.specs.Release.{is_chunk, without_block, chunk_at}
 use Rattle.place_spec.specs.Sound.{InChunk}
 use Rattle.place_spec.proofs.SoundParts.{Parts, parts}
 use Rattle.place_spec.proofs.Leaving.{stands, counted_less}
@@ -20,8 +22,10 @@ use Rattle.heap_spec.specs.Tables.{SpellsChunk, Spells, none_word, word_or_none}
 use Rattle.frag_code.specs.Fragments.{Skip, Store, Imm, If, chained}
 use Rattle.frag_code.specs.Meaning.{View, put, frag_run}
 use Rattle.frag_code.specs.Ends.{Ends}
-use Rattle.frag_code.proofs.Rules.{view, ends_so, seq_ends, skip_ends, imm_then, compute_then, load_then, store_then, if_taken, if_other}
-use Rattle.frag_rules.proofs.Values.{sum_is, add_is, less_is, times_4, times_16, right_is, plus_is, eq_yes, eq_no, ne_yes, ne_no}
+use Rattle.frag_code.proofs.Rules.{view, ends_so, seq_ends, skip_ends, imm_then, compute_then, load_then, store_then}
+use Rattle.frag_code.proofs.Rules.{if_taken, if_other}
+use Rattle.frag_rules.proofs.Values.{sum_is, add_is, less_is, times_4, times_16, right_is, plus_is, eq_yes, eq_no}
+use Rattle.frag_rules.proofs.Values.{ne_yes, ne_no}
 use Rattle.frag_rules.proofs.Spans.{put_here, put_there}
 use Rattle.heap_chunks.specs.Chunks.{clear_chunk, release_high}
 use Rattle.heap_chunks.specs.Results.{HasRoom, table_rights, ReleasesHigh}

@@ -1,5 +1,6 @@
 -- The tests of the rows find the group of the bits.
-use Rattle.std.proofs.Common.{◌≡◌, ℕ, ◌+◌, ◌-◌, ◌*◌, ◌%◌, ◌^◌, ◌<◌, ◌≤◌, ◌⊎◌, ◌==◌, Bool, true, false, cond, List, [], ◌∷◌, length, refl, ap, sym, ◌∙◌, subst, inl, inr, arith}
+use Rattle.std.proofs.Common.{◌≡◌, ℕ, ◌+◌, ◌-◌, ◌*◌, ◌%◌, ◌^◌, ◌<◌, ◌≤◌, ◌⊎◌, ◌==◌, Bool, true, false, cond, List, []}
+use Rattle.std.proofs.Common.{◌∷◌, length, refl, ap, sym, ◌∙◌, subst, inl, inr, arith}
 use Rattle.std.specs.Prelude.{Option, Some, None, nat_eq, nat_lt, bit_and, find, ◌||◌, All}
 use Rattle.std.specs.List.{list_any}
 use Rattle.std.specs.Option.{option_map}
@@ -17,7 +18,8 @@ use Rattle.heap_spec.specs.Tables.{none_word}
 use Rattle.frag_code.specs.Fragments.{Set, Compute, Imm, If, Seq}
 use Rattle.frag_code.specs.Meaning.{View, Rights, put, frag_run}
 use Rattle.frag_code.specs.Ends.{Ends}
-use Rattle.frag_code.proofs.Rules.{view, ends_so, seq_ends, set_then, compute_ends, imm_ends, if_ends, if_taken, if_other}
+use Rattle.frag_code.proofs.Rules.{view, ends_so, seq_ends, set_then, compute_ends, imm_ends, if_ends, if_taken}
+use Rattle.frag_code.proofs.Rules.{if_other}
 use Rattle.frag_rules.proofs.Values.{add_is, eq_yes, eq_no, eq_true}
 use Rattle.heap_chunks.specs.Groups.{mask_test, row_tests}
 use Rattle.heap_chunks.specs.Results.{group_word, FindsGroup}

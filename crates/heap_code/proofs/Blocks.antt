@@ -1,5 +1,6 @@
 -- A block is placed by all rules.
-use Rattle.std.proofs.Common.{◌≡◌, ℕ, ◌+◌, ◌-◌, ◌*◌, ◌^◌, ◌<◌, ◌≤◌, ◌==◌, Bool, true, false, not, cond, List, [], ◌∷◌, length, refl, ap, sym, ◌∙◌, subst, arith}
+use Rattle.std.proofs.Common.{◌≡◌, ℕ, ◌+◌, ◌-◌, ◌*◌, ◌^◌, ◌<◌, ◌≤◌, ◌==◌, Bool, true, false, not, cond, List, [], ◌∷◌}
+use Rattle.std.proofs.Common.{length, refl, ap, sym, ◌∙◌, subst, arith}
 use Rattle.std.specs.Prelude.{Option, Some, None, option_map, All}
 use Rattle.std.specs.Option.{option_or}
 use Rattle.std.proofs.lemmas.Bool.{eqb-true, eqb-false}
@@ -25,7 +26,8 @@ use Rattle.frag_rules.proofs.Narrow.{ends_keep_all}
 use Rattle.heap_holes.specs.Placing.{first_fit, Answers, placed_in_hole, FirstFitPlaces}
 use Rattle.heap_chunks.specs.Groups.{group_tests}
 use Rattle.heap_chunks.specs.Chunks.{place_high}
-use Rattle.heap_chunks.specs.Results.{HasRoom, Settled, table_rights, group_word, FindsGroup, chunk_spot, Tried, PlacesHigh}
+use Rattle.heap_chunks.specs.Results.{HasRoom, Settled, table_rights, group_word, FindsGroup, chunk_spot, Tried}
+use Rattle.heap_chunks.specs.Results.{PlacesHigh}
 use Rattle.heap_code.specs.Pieces.{place_low, has_groups, place_block}
 use Rattle.frag_code.specs.Frames.{assigns}
 use Rattle.heap_code.proofs.Kept.{Unused, unused_10, unused_11, unused_12, unused_31, groups_keep, high_keeps}

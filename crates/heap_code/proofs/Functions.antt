@@ -1,5 +1,6 @@
 -- Each of the four functions serves its requests, at its plain entry and at its reentrant one.
-use Rattle.std.proofs.Common.{◌≡◌, ℕ, ◌+◌, ◌*◌, ◌/◌, ◌%◌, ◌^◌, ◌<◌, ◌≤◌, ◌⊎◌, ◌==◌, List, [], ◌∷◌, ◌++◌, Bool, true, false, cond, length, refl, ap, sym, ◌∙◌, subst, inl, inr, arith, length-append}
+use Rattle.std.proofs.Common.{◌≡◌, ℕ, ◌+◌, ◌*◌, ◌/◌, ◌%◌, ◌^◌, ◌<◌, ◌≤◌, ◌⊎◌, ◌==◌, List, [], ◌∷◌, ◌++◌, Bool, true}
+use Rattle.std.proofs.Common.{false, cond, length, refl, ap, sym, ◌∙◌, subst, inl, inr, arith, length-append}
 use Rattle.std.specs.Prelude.{Option, Some, None, Any, nat_lt, find, slice_index}
 use Rattle.std.proofs.lemmas.Bool.{cases_lt, eqb-false, eq-eqb, ne_eqb}
 use Rattle.std.proofs.lemmas.Bool.Decides.{nat_tests}
@@ -25,14 +26,17 @@ use Rattle.place_spec.proofs.SoundParts.{Stands, Parts, parts}
 use Rattle.place_spec.proofs.Sounds.{placing, releasing, row_group}
 use Rattle.heap_spec.specs.Places.{base_of}
 use Rattle.heap_spec.specs.Tables.{Spells}
-use Rattle.heap_spec.specs.Requests.{Form, Plain, Reentrant, argument_of, granule_at, IsPointer, placed_for, layout_then}
-use Rattle.heap_spec.specs.Service.{Suits, IsReady, IsServed, Grants, Moves, Releases, Reallocates, Frees, IsGranted, AnyAnswer, words_at, words_of, turn_bound}
+use Rattle.heap_spec.specs.Requests.{Form, Plain, Reentrant, argument_of, granule_at, IsPointer, placed_for}
+use Rattle.heap_spec.specs.Requests.{layout_then}
+use Rattle.heap_spec.specs.Service.{Suits, IsReady, IsServed, Grants, Moves, Releases, Reallocates, Frees, IsGranted}
+use Rattle.heap_spec.specs.Service.{AnyAnswer, words_at, words_of, turn_bound}
 use Rattle.frag_code.specs.Fragments.{Fragment}
 use Rattle.frag_code.specs.Forms as forms
 use Rattle.frag_code.specs.Meaning.{Rights, put, frag_run}
 use Rattle.frag_code.specs.Machines.{StandsAt}
 use Rattle.frag_code.specs.Ends.{Ends}
-use Rattle.frag_code.proofs.Rules.{view, ends_so, seq_ends, skip_ends, compute_then, set_then, imm_ends, if_taken, if_other}
+use Rattle.frag_code.proofs.Rules.{view, ends_so, seq_ends, skip_ends, compute_then, set_then, imm_ends, if_taken}
+use Rattle.frag_code.proofs.Rules.{if_other}
 use Rattle.frag_code.proofs.Acts.{stands_front, stands_back}
 use Rattle.frag_rules.proofs.Values.{add_is, eq_yes, eq_no}
 use Rattle.frag_rules.proofs.Narrow.{ends_more, ends_keep_all}
@@ -42,7 +46,8 @@ use Rattle.heap_chunks.specs.Results.{table_rights, ReleasesHigh}
 use Rattle.heap_code.specs.Calls.{grant, malloc_code, calloc_code, free_code}
 use Rattle.heap_code.specs.Moving.{realloc_code}
 use Rattle.heap_code.specs.Pieces.{granule_of_block}
-use Rattle.heap_code.specs.Words.{entry_words, two_arguments, malloc_words, calloc_words, realloc_words, free_words, all_words, calloc_at, realloc_at, free_at}
+use Rattle.heap_code.specs.Words.{entry_words, two_arguments, malloc_words, calloc_words, realloc_words, free_words}
+use Rattle.heap_code.specs.Words.{all_words, calloc_at, realloc_at, free_at}
 use Rattle.heap_code.specs.Rights.{call_rights}
 use Rattle.heap_code.proofs.Sizes.{need_some}
 use Rattle.heap_code.proofs.Spots.{few_holes}
@@ -52,7 +57,8 @@ use Rattle.heap_code.proofs.Freeing.{frees_block}
 use Rattle.heap_code.proofs.Granules.{granule_ends}
 use Rattle.heap_code.proofs.Granting.{Setting, grant_ends, block_from, block_to, tables_may}
 use Rattle.heap_code.proofs.Reallocating.{covers, none_ends, block_ends}
-use Rattle.heap_code.proofs.Coming.{with_one, with_two, one_behind, two_behind, one_spent, two_spent, register_small, one_comes, plain_comes, two_comes, start_words, plain_words, one_small, two_small}
+use Rattle.heap_code.proofs.Coming.{with_one, with_two, one_behind, two_behind, one_spent, two_spent, register_small}
+use Rattle.heap_code.proofs.Coming.{one_comes, plain_comes, two_comes, start_words, plain_words, one_small, two_small}
 use Rattle.heap_code.proofs.Bytes.{word_small}
 use Rattle.heap_code.proofs.Serving.{KeepsWords, IsNew, Grant, granted, settled_alone, block_span, no_span}
 use Rattle.heap_code.proofs.Relocating.{relocated}

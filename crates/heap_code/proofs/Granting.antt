@@ -1,5 +1,6 @@
 -- A block is granted: placed, and made zero.
-use Rattle.std.proofs.Common.{◌≡◌, ℕ, ◌+◌, ◌*◌, ◌%◌, ◌^◌, ◌<◌, ◌≤◌, ◌⊎◌, Bool, true, false, List, length, refl, ap, sym, ◌∙◌, subst, inl, inr, arith}
+use Rattle.std.proofs.Common.{◌≡◌, ℕ, ◌+◌, ◌*◌, ◌%◌, ◌^◌, ◌<◌, ◌≤◌, ◌⊎◌, Bool, true, false, List, length, refl, ap, sym}
+use Rattle.std.proofs.Common.{◌∙◌, subst, inl, inr, arith}
 use Rattle.std.specs.Prelude.{Option, Some, None, All, ◌||◌}
 use Rattle.rv_isa.specs.declared.Op.TheVariants.{Add}
 use Rattle.rv_isa.specs.declared.Cond.TheVariants.{Eq}
@@ -20,7 +21,8 @@ use Rattle.frag_code.specs.Fragments.{Fragment, Skip, Imm, Seq, If}
 use Rattle.frag_code.specs.Frames.{HasMore}
 use Rattle.frag_code.specs.Meaning.{View, Rights, put, frag_run}
 use Rattle.frag_code.specs.Ends.{Ends}
-use Rattle.frag_code.proofs.Rules.{view, ends_so, seq_ends, skip_ends, imm_ends, imm_then, set_then, compute_then, if_taken, if_other}
+use Rattle.frag_code.proofs.Rules.{view, ends_so, seq_ends, skip_ends, imm_ends, imm_then, set_then, compute_then}
+use Rattle.frag_code.proofs.Rules.{if_taken, if_other}
 use Rattle.frag_rules.specs.Rights.{in_span}
 use Rattle.frag_rules.proofs.Values.{add_is, times_16, eq_yes, eq_no}
 use Rattle.frag_rules.proofs.Spans.{in_span_yes, outside}

@@ -1,5 +1,6 @@
 -- The entries are among the words, and what stands after each function.
-use Rattle.std.proofs.Common.{◌≡◌, ℕ, ◌+◌, ◌*◌, ◌%◌, ◌≤◌, List, [], ◌∷◌, ◌++◌, length, length-append, append_assoc, ◌∙◌, ap, refl, arith}
+use Rattle.std.proofs.Common.{◌≡◌, ℕ, ◌+◌, ◌*◌, ◌%◌, ◌≤◌, List, [], ◌∷◌, ◌++◌, length, length-append, append_assoc, ◌∙◌}
+use Rattle.std.proofs.Common.{ap, refl, arith}
 use Rattle.rv_isa.specs.Encoded.{encoded}
 use Rattle.rv_isa.specs.declared.Instr.TheVariants.{Jalr}
 use Rattle.plan_core.specs.declared.types.Area.{Area}
@@ -8,7 +9,8 @@ use Rattle.frag_code.specs.Fragments.{Fragment}
 use Rattle.frag_code.specs.Code.{code_of}
 use Rattle.heap_code.specs.Calls.{malloc_code, calloc_code, free_code}
 use Rattle.heap_code.specs.Moving.{realloc_code}
-use Rattle.heap_code.specs.Words.{entry_words, returning_words, malloc_words, calloc_words, realloc_words, free_words, all_words, entries}
+use Rattle.heap_code.specs.Words.{entry_words, returning_words, malloc_words, calloc_words, realloc_words, free_words}
+use Rattle.heap_code.specs.Words.{all_words, entries}
 use Rattle.heap_spec.specs.Service.{Entries}
 use Rattle.heap_code.specs.Images.{Holds}
 

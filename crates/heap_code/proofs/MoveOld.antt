@@ -1,5 +1,6 @@
 -- The old block is copied to the new one, up to the lesser of their lengths, and then released.
-use Rattle.std.proofs.Common.{◌≡◌, ℕ, ◌+◌, ◌-◌, ◌*◌, ◌%◌, ◌^◌, ◌<◌, ◌≤◌, ◌⊎◌, ◌==◌, ◌||◌, ◌&&◌, cond, Bool, true, false, [], ◌∷◌, refl, sym, ◌∙◌, subst, inl, inr, arith}
+use Rattle.std.proofs.Common.{◌≡◌, ℕ, ◌+◌, ◌-◌, ◌*◌, ◌%◌, ◌^◌, ◌<◌, ◌≤◌, ◌⊎◌, ◌==◌, ◌||◌, ◌&&◌, cond, Bool, true, false}
+use Rattle.std.proofs.Common.{[], ◌∷◌, refl, sym, ◌∙◌, subst, inl, inr, arith}
 use Rattle.std.specs.Prelude.{min, nat_le, nat_lt}
 use Rattle.std.proofs.lemmas.Bool.{cases_lt}
 use Rattle.std.proofs.lemmas.Bool.Decides.{nat_tests}
@@ -21,7 +22,8 @@ use Rattle.frag_code.specs.Ends.{Ends}
 use Rattle.frag_code.specs.Fragments.{Set, Compute, Imm, Seq, If, chained}
 use Rattle.frag_code.specs.Frames.{assigns, HasMore}
 use Rattle.frag_code.specs.Meaning.{View, Rights, put, frag_run}
-use Rattle.frag_code.proofs.Rules.{view, ends_so, set_then, imm_ends, imm_then, compute_then, load_then, if_taken, if_other, seq_ends, skip_ends}
+use Rattle.frag_code.proofs.Rules.{view, ends_so, set_then, imm_ends, imm_then, compute_then, load_then, if_taken}
+use Rattle.frag_code.proofs.Rules.{if_other, seq_ends, skip_ends}
 use Rattle.frag_rules.specs.Rights.{in_span, one_span}
 use Rattle.frag_rules.proofs.Narrow.{ends_narrow, ends_keep_all}
 use Rattle.frag_rules.proofs.Spans.{in_span_yes, outside}

@@ -1,5 +1,6 @@
 -- A placed block among the others: it is apart from them, and they are still found.
-use Rattle.std.proofs.Common.{◌≡◌, ◌≢◌, ℕ, ◌+◌, ◌<◌, ◌≤◌, ◌==◌, cond, Bool, true, false, List, [], ◌∷◌, refl, sym, ◌∙◌, ap, subst, arith, inl, inr}
+use Rattle.std.proofs.Common.{◌≡◌, ◌≢◌, ℕ, ◌+◌, ◌<◌, ◌≤◌, ◌==◌, cond, Bool, true, false, List, [], ◌∷◌, refl, sym, ◌∙◌}
+use Rattle.std.proofs.Common.{ap, subst, arith, inl, inr}
 use Rattle.std.specs.Prelude.{Option, Some, None, find, nat_lt, option_map}
 use Rattle.std.proofs.lemmas.Bool.{eqb-true}
 use Rattle.plan_core.specs.declared.types.Area.{Area}

@@ -1,5 +1,6 @@
 -- A block is moved to another, or granted where there was none.
-use Rattle.std.proofs.Common.{◌≡◌, ℕ, ◌+◌, ◌*◌, ◌%◌, ◌^◌, ◌<◌, ◌≤◌, ◌⊎◌, ◌==◌, List, refl, sym, ◌∙◌, subst, inl, inr, arith}
+use Rattle.std.proofs.Common.{◌≡◌, ℕ, ◌+◌, ◌*◌, ◌%◌, ◌^◌, ◌<◌, ◌≤◌, ◌⊎◌, ◌==◌, List, refl, sym, ◌∙◌, subst, inl, inr}
+use Rattle.std.proofs.Common.{arith}
 use Rattle.std.specs.Prelude.{Option, Some, None, option_map, min}
 use Rattle.rv_isa.specs.declared.Op.TheVariants.{Add}
 use Rattle.rv_isa.specs.declared.Cond.TheVariants.{Eq}
@@ -36,7 +37,8 @@ use Rattle.heap_code.proofs.Blocks.{granule_small}
 use Rattle.heap_code.proofs.Zeroing.{ZeroFor}
 use Rattle.heap_code.proofs.News.{Beside, beside}
 use Rattle.heap_code.proofs.MoveOld as old
-use Rattle.heap_code.proofs.Granting.{Setting, block_from, block_to, Chosen, choose, Granted, Covers, zeroes, zeroed_spells}
+use Rattle.heap_code.proofs.Granting.{Setting, block_from, block_to, Chosen, choose, Granted, Covers, zeroes}
+use Rattle.heap_code.proofs.Granting.{zeroed_spells}
 
 module _ (rows : List Row) (area : Area) (data_at : ℕ) (setting : Setting rows area data_at)
     (back : ReleaseLowReleases area data_at)

@@ -1,5 +1,6 @@
 -- A request to move a block is served.
-use Rattle.std.proofs.Common.{◌≡◌, ℕ, ◌+◌, ◌-◌, ◌*◌, ◌/◌, ◌%◌, ◌^◌, ◌<◌, ◌≤◌, ◌==◌, List, refl, ap, sym, ◌∙◌, subst, arith}
+use Rattle.std.proofs.Common.{◌≡◌, ℕ, ◌+◌, ◌-◌, ◌*◌, ◌/◌, ◌%◌, ◌^◌, ◌<◌, ◌≤◌, ◌==◌, List, refl, ap, sym, ◌∙◌, subst}
+use Rattle.std.proofs.Common.{arith}
 use Rattle.std.specs.Prelude.{Option, Some, None, min, option_map}
 use Rattle.rv_isa.specs.declared.Width.TheVariants.{Word}
 use Rattle.plan_core.specs.declared.types.Area.{Area}
@@ -17,7 +18,8 @@ use Rattle.place_spec.proofs.Blocks.{each_found}
 use Rattle.heap_spec.specs.Places.{base_of, area_end}
 use Rattle.heap_spec.specs.Tables.{Spells}
 use Rattle.heap_spec.specs.Requests.{address_or_zero, layout_then}
-use Rattle.heap_spec.specs.Service.{IsMachine, HoldsData, IsServed, IsMoved, IsMovedBlock, IsCopy, IsZero, words_of, turn_bound}
+use Rattle.heap_spec.specs.Service.{IsMachine, HoldsData, IsServed, IsMoved, IsMovedBlock, IsCopy, IsZero, words_of}
+use Rattle.heap_spec.specs.Service.{turn_bound}
 use Rattle.frag_code.specs.Fragments.{Fragment}
 use Rattle.frag_code.specs.Frames.{HasWords}
 use Rattle.frag_code.specs.Meaning.{View, frag_run}

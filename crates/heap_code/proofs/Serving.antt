@@ -14,7 +14,8 @@ use Rattle.place_spec.proofs.SoundParts.{Parts, parts}
 use Rattle.heap_spec.specs.Places.{base_of, area_end}
 use Rattle.heap_spec.specs.Tables.{Spells}
 use Rattle.heap_spec.specs.Requests.{address_or_zero, layout_then}
-use Rattle.heap_spec.specs.Service.{IsMachine, IsServed, IsInBlock, IsGranted, IsZero, IsZeroBlock, AnyAnswer, turn_bound}
+use Rattle.heap_spec.specs.Service.{IsMachine, IsServed, IsInBlock, IsGranted, IsZero, IsZeroBlock, AnyAnswer}
+use Rattle.heap_spec.specs.Service.{turn_bound}
 use Rattle.frag_code.specs.Fragments.{Fragment}
 use Rattle.frag_code.specs.Frames.{HasWords}
 use Rattle.frag_code.specs.Meaning.{View, Rights, frag_run}

@@ -1,5 +1,6 @@
 -- What the rules choose, by parts: the first two rules, then the third.
-use Rattle.std.proofs.Common.{◌≡◌, ℕ, ◌+◌, ◌<◌, ◌≤◌, Bool, true, false, cond, List, [], ◌∷◌, length, refl, ap, ◌∙◌, arith}
+use Rattle.std.proofs.Common.{◌≡◌, ℕ, ◌+◌, ◌<◌, ◌≤◌, Bool, true, false, cond, List, [], ◌∷◌, length, refl, ap, ◌∙◌}
+use Rattle.std.proofs.Common.{arith}
 use Rattle.std.specs.Prelude.{Option, Some, None, nat_le, nat_lt, is_none, position, option_map, option_and_then}
 use Rattle.std.specs.Option.{option_or}
 use Rattle.plan_core.specs.declared.types.Area.{Area}

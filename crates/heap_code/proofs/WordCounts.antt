@@ -15,7 +15,8 @@ use Rattle.heap_code.specs.Calls.{malloc_code, calloc_code, free_code}
 use Rattle.heap_code.specs.Moving.{realloc_code}
 use Rattle.heap_code.specs.Words as specs
 use Rattle.heap_code.specs.Words.{entry_words, returning_words, all_words}
-use Rattle.heap_code.proofs.Forming.{grant_fields, calloc_fields, realloc_fields, release_call_fields, grant_words, calloc_words, realloc_words, release_call_words}
+use Rattle.heap_code.proofs.Forming.{grant_fields, calloc_fields, realloc_fields, release_call_fields, grant_words}
+use Rattle.heap_code.proofs.Forming.{calloc_words, realloc_words, release_call_words}
 
 module _ (fields : (f : Fragment) → has_fields f ≡ true → HasFields f) (words : (f : Fragment)
     → length (instructions_of f) ≡ words_in f) where

@@ -1,5 +1,6 @@
 -- The walk to the first hole that is long enough.
-use Rattle.std.proofs.Common.{◌≡◌, ℕ, ◌+◌, ◌-◌, ◌*◌, ◌%◌, ◌^◌, ◌<◌, ◌≤◌, true, false, List, [], ◌∷◌, length, refl, sym, ◌∙◌, ap, subst, arith}
+use Rattle.std.proofs.Common.{◌≡◌, ℕ, ◌+◌, ◌-◌, ◌*◌, ◌%◌, ◌^◌, ◌<◌, ◌≤◌, true, false, List, [], ◌∷◌, length, refl, sym}
+use Rattle.std.proofs.Common.{◌∙◌, ap, subst, arith}
 use Rattle.rv_isa.specs.declared.Op.TheVariants.{Add}
 use Rattle.rv_isa.specs.declared.Cond.TheVariants.{Ltu}
 use Rattle.rv_isa.specs.Compute.{computed}
@@ -10,11 +11,13 @@ use Rattle.frag_code.specs.Ends.{Ends}
 use Rattle.frag_code.specs.Frames.{assigns}
 use Rattle.frag_code.specs.Meaning.{View, Rights, put, tested, holds, frag_run}
 use Rattle.frag_code.proofs.Loops.{while_list}
-use Rattle.frag_code.proofs.Rules.{view, ends_so, imm_ends, imm_then, compute_then, load_then, if_taken, if_other, seq_ends, skip_ends}
+use Rattle.frag_code.proofs.Rules.{view, ends_so, imm_ends, imm_then, compute_then, load_then, if_taken, if_other}
+use Rattle.frag_code.proofs.Rules.{seq_ends, skip_ends}
 use Rattle.frag_rules.specs.Rights.{in_span, one_span}
 use Rattle.frag_rules.proofs.Narrow.{ends_keep_all}
 use Rattle.frag_rules.proofs.Spans.{in_span_yes}
-use Rattle.frag_rules.proofs.Values.{sum_is, add_is, less_is, moved_is, times_8, plus_is, eq_yes, eq_no, ltu_no, ltu_true, ltu_false}
+use Rattle.frag_rules.proofs.Values.{sum_is, add_is, less_is, moved_is, times_8, plus_is, eq_yes, eq_no, ltu_no}
+use Rattle.frag_rules.proofs.Values.{ltu_true, ltu_false}
 use Rattle.heap_spec.specs.Tables.{none_word, SpellsHoles}
 use Rattle.heap_holes.specs.Placing.{measure, pass_hole, find_hole}
 use Rattle.heap_holes.proofs.Zipper.{rev_onto, link_of, HasSeen, Descends, after, gap_from}

@@ -1,5 +1,6 @@
 -- A block is joined with the hole behind it, if they touch.
-use Rattle.std.proofs.Common.{◌≡◌, ◌≢◌, ℕ, ◌+◌, ◌*◌, ◌<◌, ◌≤◌, ◌⊎◌, true, false, List, [], ◌∷◌, refl, sym, ◌∙◌, ap, subst, arith, inl, inr}
+use Rattle.std.proofs.Common.{◌≡◌, ◌≢◌, ℕ, ◌+◌, ◌*◌, ◌<◌, ◌≤◌, ◌⊎◌, true, false, List, [], ◌∷◌, refl, sym, ◌∙◌, ap}
+use Rattle.std.proofs.Common.{subst, arith, inl, inr}
 use Rattle.std.specs.Prelude.{nat_lt, min}
 use Rattle.std.proofs.lemmas.Bool.{cases_eq}
 use Rattle.std.proofs.lemmas.Bool.Decides.{nat_tests}
@@ -12,7 +13,8 @@ use Rattle.frag_code.specs.Ends.{Ends}
 use Rattle.frag_code.specs.Fragments.{If, Skip}
 use Rattle.frag_code.specs.Frames.{assigns}
 use Rattle.frag_code.specs.Meaning.{View, Rights, put, frag_run}
-use Rattle.frag_code.proofs.Rules.{view, imm_then, compute_then, load_then, store_then, if_taken, if_other, seq_ends, skip_ends}
+use Rattle.frag_code.proofs.Rules.{view, imm_then, compute_then, load_then, store_then, if_taken, if_other, seq_ends}
+use Rattle.frag_code.proofs.Rules.{skip_ends}
 use Rattle.frag_rules.specs.Rights.{in_span, one_span}
 use Rattle.frag_rules.proofs.Narrow.{ends_keep_all}
 use Rattle.frag_rules.proofs.Spans.{in_span_yes, put_here, put_there}

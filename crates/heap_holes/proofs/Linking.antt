@@ -1,5 +1,6 @@
 -- A block becomes a hole between the passed holes and the rest, or a part of the last passed one.
-use Rattle.std.proofs.Common.{◌≡◌, ◌≢◌, ℕ, ◌+◌, ◌*◌, ◌^◌, ◌<◌, ◌≤◌, ◌⊎◌, true, List, [], ◌∷◌, refl, sym, ◌∙◌, ap, subst, arith, inl, inr}
+use Rattle.std.proofs.Common.{◌≡◌, ◌≢◌, ℕ, ◌+◌, ◌*◌, ◌^◌, ◌<◌, ◌≤◌, ◌⊎◌, true, List, [], ◌∷◌, refl, sym, ◌∙◌, ap, subst}
+use Rattle.std.proofs.Common.{arith, inl, inr}
 use Rattle.std.proofs.lemmas.Bool.{cases_eq}
 use Rattle.rv_isa.specs.declared.Cond.TheVariants.{Eq}
 use Rattle.place_spec.specs.declared.parts.Hole.{Hole}
@@ -9,7 +10,8 @@ use Rattle.place_spec.proofs.Lists.{Each}
 use Rattle.frag_code.specs.Ends.{Ends}
 use Rattle.frag_code.specs.Fragments.{If}
 use Rattle.frag_code.specs.Meaning.{View, Rights, put, frag_run}
-use Rattle.frag_code.proofs.Rules.{view, imm_then, compute_then, load_then, store_then, if_taken, if_other, seq_ends, skip_ends}
+use Rattle.frag_code.proofs.Rules.{view, imm_then, compute_then, load_then, store_then, if_taken, if_other, seq_ends}
+use Rattle.frag_code.proofs.Rules.{skip_ends}
 use Rattle.frag_rules.specs.Rights.{in_span, one_span}
 use Rattle.frag_rules.proofs.Spans.{in_span_yes, put_here, put_there}
 use Rattle.frag_rules.proofs.Values.{add_is, times_8, plus_is, eq_yes, eq_no}
@@ -18,7 +20,8 @@ use Rattle.heap_holes.specs.Releasing.{widen, link, join_last}
 use Rattle.heap_holes.proofs.Finding.{Ground}
 use Rattle.heap_holes.proofs.Joining.{Between, Joins}
 use Rattle.heap_holes.proofs.Tables.{Relinked, apart_outside}
-use Rattle.heap_holes.proofs.Zipper.{hole, rev_onto, link_of, Gap, after, zip, seen_stay, holes_stay, with_seen, with_last, LinkStands, link_stands, word_small}
+use Rattle.heap_holes.proofs.Zipper.{hole, rev_onto, link_of, Gap, after, zip, seen_stay, holes_stay, with_seen}
+use Rattle.heap_holes.proofs.Zipper.{with_last, LinkStands, link_stands, word_small}
 
 -- the holes after it
 abbrev pub Gives : (rows head first long : ℕ) → (seen rest : List Hole) → (m : ℕ → ℕ) → (from : ℕ) → (ℕ → ℕ) → Type 0

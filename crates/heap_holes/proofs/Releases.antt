@@ -1,6 +1,7 @@
 -- A block of the fallback is released: the last hole before it is found, and it is joined with what it
 -- touches.
-use Rattle.std.proofs.Common.{◌≡◌, ◌≢◌, ℕ, suc, ◌+◌, ◌*◌, ◌^◌, ◌<◌, ◌≤◌, ◌⊎◌, ◌==◌, true, false, List, [], ◌∷◌, length, refl, sym, ◌∙◌, subst, arith, inl, inr}
+use Rattle.std.proofs.Common.{◌≡◌, ◌≢◌, ℕ, suc, ◌+◌, ◌*◌, ◌^◌, ◌<◌, ◌≤◌, ◌⊎◌, ◌==◌, true, false, List, [], ◌∷◌, length}
+use Rattle.std.proofs.Common.{refl, sym, ◌∙◌, subst, arith, inl, inr}
 use Rattle.std.specs.Prelude.{Some, nat_lt}
 use Rattle.std.proofs.lemmas.Bool.{cases_lt}
 use Rattle.std.proofs.lemmas.Bool.Decides.{nat_tests}
@@ -20,7 +21,8 @@ use Rattle.frag_code.specs.Fragments.{If, Seq, Skip}
 use Rattle.frag_code.specs.Frames.{assigns}
 use Rattle.frag_code.specs.Meaning.{View, Rights, put, tested, holds, frag_run}
 use Rattle.frag_code.proofs.Loops.{while_list}
-use Rattle.frag_code.proofs.Rules.{view, ends_so, imm_then, compute_then, load_then, store_then, if_taken, if_other, seq_ends, skip_ends}
+use Rattle.frag_code.proofs.Rules.{view, ends_so, imm_then, compute_then, load_then, store_then, if_taken, if_other}
+use Rattle.frag_code.proofs.Rules.{seq_ends, skip_ends}
 use Rattle.frag_rules.specs.Rights.{in_span, one_span}
 use Rattle.frag_rules.proofs.Narrow.{ends_keep_all}
 use Rattle.frag_rules.proofs.Spans.{in_span_yes}
@@ -28,7 +30,8 @@ use Rattle.frag_rules.proofs.Values.{add_is, times_8, plus_is, ltu_yes, ltu_no, 
 use Rattle.heap_spec.specs.Places.{rows_at, granule_row}
 use Rattle.heap_spec.specs.Tables.{none_word, SpellsHoles, Spells}
 use Rattle.heap_holes.specs.Fits.{TablesFit}
-use Rattle.heap_holes.specs.Releasing.{join_next, join_last, next_hole, release_behind, release_first, release_low, ReleaseLowReleases}
+use Rattle.heap_holes.specs.Releasing.{join_next, join_last, next_hole, release_behind, release_first, release_low}
+use Rattle.heap_holes.specs.Releasing.{ReleaseLowReleases}
 use Rattle.heap_holes.proofs.Finding.{Ground}
 use Rattle.heap_holes.proofs.FirstFit.{ground}
 use Rattle.heap_holes.proofs.Joining.{Between, Joined, Ahead, join_next_ends}

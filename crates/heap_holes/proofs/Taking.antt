@@ -1,5 +1,6 @@
 -- The front of a hole is taken: the hole is unlinked, or what is left of it becomes a hole.
-use Rattle.std.proofs.Common.{◌≡◌, ◌≢◌, ℕ, ◌+◌, ◌-◌, ◌*◌, ◌^◌, ◌<◌, ◌≤◌, ◌⊎◌, ◌==◌, Bool, true, false, List, ◌∷◌, refl, sym, ◌∙◌, subst, arith, inl, inr}
+use Rattle.std.proofs.Common.{◌≡◌, ◌≢◌, ℕ, ◌+◌, ◌-◌, ◌*◌, ◌^◌, ◌<◌, ◌≤◌, ◌⊎◌, ◌==◌, Bool, true, false, List, ◌∷◌, refl}
+use Rattle.std.proofs.Common.{sym, ◌∙◌, subst, arith, inl, inr}
 use Rattle.std.proofs.lemmas.Bool.Decides.{nat_tests}
 use Rattle.rv_isa.specs.declared.Cond.TheVariants.{Eq}
 use Rattle.place_spec.specs.declared.parts.Hole.{Hole}
@@ -8,7 +9,8 @@ use Rattle.place_spec.proofs.Lists.{Each}
 use Rattle.frag_code.specs.Ends.{Ends}
 use Rattle.frag_code.specs.Fragments.{If}
 use Rattle.frag_code.specs.Meaning.{View, Rights, put, frag_run}
-use Rattle.frag_code.proofs.Rules.{view, imm_then, compute_then, load_then, store_then, if_taken, if_other, seq_ends, skip_ends}
+use Rattle.frag_code.proofs.Rules.{view, imm_then, compute_then, load_then, store_then, if_taken, if_other, seq_ends}
+use Rattle.frag_code.proofs.Rules.{skip_ends}
 use Rattle.frag_rules.specs.Rights.{in_span, one_span}
 use Rattle.frag_rules.proofs.Spans.{in_span_yes, put_here, put_there}
 use Rattle.frag_rules.proofs.Values.{add_is, sub_is, times_8, plus_is, eq_yes, eq_no}
@@ -16,7 +18,8 @@ use Rattle.heap_spec.specs.Tables.{SpellsHoles}
 use Rattle.heap_holes.specs.Placing.{unlink, split, take_front}
 use Rattle.heap_holes.proofs.Finding.{Ground}
 use Rattle.heap_holes.proofs.Tables.{Relinked}
-use Rattle.heap_holes.proofs.Zipper.{hole, rev_onto, link_of, HasSeen, Descends, after, zip, seen_stay, holes_stay, LinkStands, link_stands, word_small}
+use Rattle.heap_holes.proofs.Zipper.{hole, rev_onto, link_of, HasSeen, Descends, after, zip, seen_stay, holes_stay}
+use Rattle.heap_holes.proofs.Zipper.{LinkStands, link_stands, word_small}
 
 -- a hole is reached behind others
 pub record Reached (rows head n : ℕ) (m : ℕ → ℕ) (seen : List Hole) (h : Hole) (rest : List Hole) : Type 0 where

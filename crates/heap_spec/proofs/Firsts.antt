@@ -1,11 +1,13 @@
 -- The first words of the tables spell the first layout.
-use Rattle.std.proofs.Common.{◌≡◌, ℕ, zero, suc, ◌+◌, ◌*◌, ◌<◌, ◌==◌, cond, Bool, true, false, List, [], ◌∷◌, ◌++◌, length, get_or, replicate, sym, ◌∙◌, subst, refl, ap, arith}
+use Rattle.std.proofs.Common.{◌≡◌, ℕ, zero, suc, ◌+◌, ◌*◌, ◌<◌, ◌==◌, cond, Bool, true, false, List, [], ◌∷◌, ◌++◌}
+use Rattle.std.proofs.Common.{length, get_or, replicate, sym, ◌∙◌, subst, refl, ap, arith}
 use Rattle.std.specs.Prelude.{Option, None}
 use Rattle.std.proofs.lemmas.List.{length-append}
 use Rattle.plan_core.specs.declared.types.Area.{Area}
 use Rattle.place_spec.specs.Layout.{idle_chunk, first_layout}
 use Rattle.heap_spec.specs.Places.{current_row, chunk_row, rows_at}
-use Rattle.heap_spec.specs.Tables.{none_word, word_or_none, SpellsHoles, SpellsChunk, Spells, idle_rows, first_words, HasWords}
+use Rattle.heap_spec.specs.Tables.{none_word, word_or_none, SpellsHoles, SpellsChunk, Spells, idle_rows, first_words}
+use Rattle.heap_spec.specs.Tables.{HasWords}
 
 front : (m : ℕ → ℕ) (at : ℕ) (xs ys : List ℕ) → HasWords m at (xs ++ ys) → HasWords m at xs
 front m at [] ys h = tt

@@ -2,7 +2,8 @@
 -- where its entry is among the heap's words.
 use Rattle.std.specs.Prelude.{◌≡◌, ℕ, ◌+◌, ◌*◌, ◌%◌, ◌<◌, ◌≤◌, List, length}
 use Rattle.elf_spec.specs.declared.HeapName.{HeapName}
-use Rattle.elf_spec.specs.declared.HeapName.TheVariants.{Malloc, Calloc, Realloc, Free, MallocR, CallocR, ReallocR, FreeR}
+use Rattle.elf_spec.specs.declared.HeapName.TheVariants.{Malloc, Calloc, Realloc, Free, MallocR, CallocR, ReallocR}
+use Rattle.elf_spec.specs.declared.HeapName.TheVariants.{FreeR}
 use Rattle.heap_spec.specs.Requests as requests
 use Rattle.heap_spec.specs.Requests.{Call, Form, Plain, Reentrant}
 use Rattle.heap_spec.specs.Service.{Entries, words_at}

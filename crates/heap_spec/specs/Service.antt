@@ -1,6 +1,7 @@
 -- What the heap's words do on the flat machine: at each of eight entries they serve one request, and
 -- return to ra.
-use Rattle.std.specs.Prelude.{◌≡◌, ℕ, ◌+◌, ◌-◌, ◌*◌, ◌%◌, ◌^◌, ◌<◌, ◌≤◌, ◌⊎◌, ◌==◌, min, List, Bool, true, false, All, Option, Some, None, length, map, slice_index, unwrap_or, nat_le, ◌&&◌, ◌||◌}
+use Rattle.std.specs.Prelude.{◌≡◌, ℕ, ◌+◌, ◌-◌, ◌*◌, ◌%◌, ◌^◌, ◌<◌, ◌≤◌, ◌⊎◌, ◌==◌, min, List, Bool, true, false, All}
+use Rattle.std.specs.Prelude.{Option, Some, None, length, map, slice_index, unwrap_or, nat_le, ◌&&◌, ◌||◌}
 use Rattle.rv_isa.specs.declared.Width.TheVariants.{Word}
 use Rattle.plan_core.specs.declared.types.Area.{Area}
 use Rattle.plan_core.specs.declared.types.Row.{Row}
@@ -16,7 +17,8 @@ use Rattle.place_spec.specs.Release.{block_at, released, moved}
 use Rattle.place_spec.specs.Sound.{Sound}
 use Rattle.heap_spec.specs.Places.{tables_end, base_of, area_end}
 use Rattle.heap_spec.specs.Tables.{Spells}
-use Rattle.heap_spec.specs.Requests.{Call, Malloc, Calloc, Realloc, Free, Form, Plain, Reentrant, argument_of, granule_at, IsGood, placed_for, address_or_zero, layout_then}
+use Rattle.heap_spec.specs.Requests.{Call, Malloc, Calloc, Realloc, Free, Form, Plain, Reentrant, argument_of}
+use Rattle.heap_spec.specs.Requests.{granule_at, IsGood, placed_for, address_or_zero, layout_then}
 
 -- the most turns for one heap request, with those that lead to its entry and back
 abbrev pub turn_bound : Area → ℕ

@@ -1,7 +1,8 @@
 -- The tables of a heap: what their words are for a layout, and their words at the start. Memory is seen
 -- as the words at its multiples of 4. The words from data_at + 4 up to data_at + 64 hold anything, and
 -- so do those of granules at which neither a live block nor a hole begins.
-use Rattle.std.specs.Prelude.{◌≡◌, ℕ, zero, suc, ◌+◌, ◌*◌, ◌<◌, ◌==◌, List, [], ◌∷◌, ◌++◌, flat_map, replicate, All, Option, Some, None, if◌then◌else◌}
+use Rattle.std.specs.Prelude.{◌≡◌, ℕ, zero, suc, ◌+◌, ◌*◌, ◌<◌, ◌==◌, List, [], ◌∷◌, ◌++◌, flat_map, replicate, All}
+use Rattle.std.specs.Prelude.{Option, Some, None, if◌then◌else◌}
 use Rattle.plan_core.specs.declared.types.Area.{Area}
 use Rattle.machine_spec.specs.Widths.{low_bytes}
 use Rattle.place_spec.specs.declared.parts.Hole.{Hole}

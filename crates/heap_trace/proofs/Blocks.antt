@@ -1,6 +1,8 @@
 -- Which blocks live, after stores, grants, copies and deaths.
-use Rattle.std.proofs.Common.{◌≡◌, ℕ, zero, suc, ◌+◌, ◌*◌, Bool, true, false, ◌&&◌, List, [], ◌∷◌, ◌++◌, length, map, refl, ap, sym, ◌∙◌}
-use Rattle.std.specs.Prelude.{Option, Some, None, option_map, option_and_then, slice_get, slice_set, if◌then◌else◌, nat_le}
+use Rattle.std.proofs.Common.{◌≡◌, ℕ, zero, suc, ◌+◌, ◌*◌, Bool, true, false, ◌&&◌, List, [], ◌∷◌, ◌++◌, length, map}
+use Rattle.std.proofs.Common.{refl, ap, sym, ◌∙◌}
+use Rattle.std.specs.Prelude.{Option, Some, None, option_map, option_and_then, slice_get, slice_set, if◌then◌else◌}
+use Rattle.std.specs.Prelude.{nat_le}
 use Rattle.std.proofs.lemmas.List.{map-append}
 use Rattle.rv_isa.specs.declared.Width.{Width}
 use Rattle.rv_isa.specs.declared.Width.TheVariants.{ByteU}
@@ -11,7 +13,9 @@ use Rattle.sym_value.specs.declared.Value.TheVariants.{Num, Ptr, Ret, Mix, Part,
 use Rattle.sym_value.specs.Places.{is_living, lives_in}
 use Rattle.sym_cells.specs.Cells.{cell_in}
 use Rattle.sym_cells.specs.Moves.{store, load_at}
-use Rattle.sym_cells.specs.Memory.{Block, Memory, is_aligned, is_inside, life_of, live_of, loaded_in, loaded, store_plain, stored_in, stored, granted, died, dropped, set_block, overlaid, overlaid_block, copied}
+use Rattle.sym_cells.specs.Memory.{Block, Memory, is_aligned, is_inside, life_of, live_of, loaded_in, loaded}
+use Rattle.sym_cells.specs.Memory.{store_plain, stored_in, stored, granted, died, dropped, set_block, overlaid}
+use Rattle.sym_cells.specs.Memory.{overlaid_block, copied}
 use Rattle.sym_cells.specs.Buffers.{is_inside_one, is_within, next_byte, stored_each, filled}
 
 -- which blocks live, by their names

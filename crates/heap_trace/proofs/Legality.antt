@@ -1,5 +1,7 @@
 -- The events of turns are a legal list.
-use Rattle.std.proofs.Common.{◌≡◌, ◌⊎◌, inl, inr, ◌==◌, ◌||◌, ◌+◌, ◌<◌, ◌≤◌, ℕ, zero, suc, Bool, true, false, cond, nat_lt, List, [], ◌∷◌, ◌++◌, length, Option, Some, None, refl, ap, sym, ◌∙◌, subst, arith, append_assoc, length-append}
+use Rattle.std.proofs.Common.{◌≡◌, ◌⊎◌, inl, inr, ◌==◌, ◌||◌, ◌+◌, ◌<◌, ◌≤◌, ℕ, zero, suc, Bool, true, false, cond}
+use Rattle.std.proofs.Common.{nat_lt, List, [], ◌∷◌, ◌++◌, length, Option, Some, None, refl, ap, sym, ◌∙◌, subst, arith}
+use Rattle.std.proofs.Common.{append_assoc, length-append}
 use Rattle.std.specs.Prelude.{filter_map, slice_set, MatchOption, if◌then◌else◌}
 use Rattle.std.proofs.lemmas.Bool.Decides.{nat_tests}
 use Rattle.std.proofs.lemmas.List.{append-nil, length-set}
@@ -9,7 +11,8 @@ use Rattle.std.proofs.lemmas.Option.{slice_get_within}
 use Rattle.plan_core.specs.declared.types.Plan.{Plan}
 use Rattle.plan_core.specs.declared.profiles.Event.{Event}
 use Rattle.plan_core.specs.declared.profiles.Event.TheVariants.{Grant, Access, Release}
-use Rattle.affinity.specs.Histories.{is_in, context_granted, block_released, entry_of, contexts_of, released_in, accesses_of, different, MayFollow, Legal}
+use Rattle.affinity.specs.Histories.{is_in, context_granted, block_released, entry_of, contexts_of, released_in}
+use Rattle.affinity.specs.Histories.{accesses_of, different, MayFollow, Legal}
 use Rattle.sym_spec.specs.declared.BlockAccess.{BlockAccess}
 use Rattle.sym_spec.specs.declared.StepNote.{StepNote}
 use Rattle.sym_spec.specs.SymMachine.{SymMachine, start}

@@ -1,5 +1,6 @@
 -- Events that may follow are events that an affinity takes.
-use Rattle.std.proofs.Common.{◌≡◌, ◌<◌, ◌++◌, ◌∷◌, [], ℕ, suc, zero, Bool, true, false, not, List, length, Option, Some, None, refl, ap, sym, ◌∙◌, arith}
+use Rattle.std.proofs.Common.{◌≡◌, ◌<◌, ◌++◌, ◌∷◌, [], ℕ, suc, zero, Bool, true, false, not, List, length, Option, Some}
+use Rattle.std.proofs.Common.{None, refl, ap, sym, ◌∙◌, arith}
 use Rattle.std.specs.Prelude.{slice_get, slice_index_or, MatchOption}
 use Rattle.plan_core.specs.declared.profiles.Event.{Event}
 use Rattle.plan_core.specs.declared.profiles.Event.TheVariants.{Grant, Access, Release}

@@ -1,5 +1,6 @@
 -- Runs that are recorded, turn by turn.
-use Rattle.std.proofs.Common.{◌≡◌, ℕ, zero, suc, ◌+◌, ◌-◌, ◌<◌, ◌≤◌, List, [], refl, ap, sym, subst, ◌∙◌, append-nil, add-one, arith}
+use Rattle.std.proofs.Common.{◌≡◌, ℕ, zero, suc, ◌+◌, ◌-◌, ◌<◌, ◌≤◌, List, [], refl, ap, sym, subst, ◌∙◌, append-nil}
+use Rattle.std.proofs.Common.{add-one, arith}
 use borrow.Author.Count.{below_more}
 use Rattle.std.specs.Prelude.{Option, Some}
 use Rattle.machine_spec.specs.declared.Ending.{Ending}

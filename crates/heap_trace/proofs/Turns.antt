@@ -1,16 +1,19 @@
 -- What a turn does to the blocks is what its note says.
-use Rattle.std.proofs.Common.{◌≡◌, ℕ, zero, suc, ◌*◌, ◌/◌, ◌≤◌, ◌==◌, Bool, true, false, ◌&&◌, ◌||◌, List, [], ◌∷◌, ◌++◌, length, refl, ap, sym, ◌∙◌, subst, arith, Option, Some, None}
+use Rattle.std.proofs.Common.{◌≡◌, ℕ, zero, suc, ◌*◌, ◌/◌, ◌≤◌, ◌==◌, Bool, true, false, ◌&&◌, ◌||◌, List, [], ◌∷◌}
+use Rattle.std.proofs.Common.{◌++◌, length, refl, ap, sym, ◌∙◌, subst, arith, Option, Some, None}
 use Rattle.std.specs.Prelude.{if◌then◌else◌, is_some, take, slice_set, MatchOption}
 use Rattle.std.proofs.lemmas.List.{length-map}
 use Rattle.std.proofs.lemmas.Bool.Decides.{nat_tests}
 use Rattle.rv_isa.specs.declared.Instr.{Instr}
-use Rattle.rv_isa.specs.declared.Instr.TheVariants.{Lui, Auipc, Jal, Jalr, Branch, Load, Store, OpImm, Reg, Fence, Ecall, Ebreak}
+use Rattle.rv_isa.specs.declared.Instr.TheVariants.{Lui, Auipc, Jal, Jalr, Branch, Load, Store, OpImm, Reg, Fence}
+use Rattle.rv_isa.specs.declared.Instr.TheVariants.{Ecall, Ebreak}
 use Rattle.rv_isa.specs.declared.Width.{Width}
 use Rattle.rv_isa.specs.declared.Width.TheVariants.{Byte, Half, Word, ByteU, HalfU}
 use Rattle.rv_isa.specs.Addresses.{plus}
 use Rattle.rv_isa.specs.Table.{decoded}
 use Rattle.elf_spec.specs.declared.HeapName.{HeapName}
-use Rattle.elf_spec.specs.declared.HeapName.TheVariants.{Malloc, Calloc, Realloc, Free, MallocR, CallocR, ReallocR, FreeR}
+use Rattle.elf_spec.specs.declared.HeapName.TheVariants.{Malloc, Calloc, Realloc, Free, MallocR, CallocR, ReallocR}
+use Rattle.elf_spec.specs.declared.HeapName.TheVariants.{FreeR}
 use Rattle.elf_spec.specs.Code.{code_word}
 use Rattle.elf_spec.specs.Memory.{image_end}
 use Rattle.elf_spec.specs.Records.{segments_of}
@@ -34,11 +37,17 @@ use Rattle.sym_spec.specs.declared.BlockAccess.{BlockAccess}
 use Rattle.sym_spec.specs.declared.StepNote.{StepNote}
 use Rattle.sym_spec.specs.Plain.{is_plain, is_plain_store}
 use Rattle.sym_spec.specs.SymMachine.{SymMachine, lives_of, value_of, faults, loads, stores, links, jumps, goes_back}
-use Rattle.sym_spec.specs.SymCalls.{SymTurn, quiet, answers, word_in, pointer_in, buffer_in, reads_into, reads_to, writes_known, writes_from, reads, writes, calls_with, calls_by, calls}
-use Rattle.sym_spec.specs.SymTurns.{Here, Nothing, Heap, Pair, Code, here, address_of, jumps_to, branches, acts, executes, runs_here, turn_of, turn}
-use Rattle.sym_spec.specs.SymNotes.{empty_note, access_to, uses_buffer, buffer_access, call_access, access_of, instr_note, heap_note, here_note, is_fault, ending_note, note}
-use Rattle.sym_spec.specs.HeapActions.{Outcome, Action, granule_in, grants_placed, grants, moves_placed, moves, releases, is_front, mallocs, callocs, reallocs, frees, function, outcome, answered, returns, returns_with, serves}
-use Rattle.heap_trace.proofs.Blocks.{lives, IsAlive, got, loaded_alive, stored_alive, within_alive, stored_lives, filled_lives, copied_lives, granted_lives, dropped_lives, living_alive}
+use Rattle.sym_spec.specs.SymCalls.{SymTurn, quiet, answers, word_in, pointer_in, buffer_in, reads_into, reads_to}
+use Rattle.sym_spec.specs.SymCalls.{writes_known, writes_from, reads, writes, calls_with, calls_by, calls}
+use Rattle.sym_spec.specs.SymTurns.{Here, Nothing, Heap, Pair, Code, here, address_of, jumps_to, branches, acts}
+use Rattle.sym_spec.specs.SymTurns.{executes, runs_here, turn_of, turn}
+use Rattle.sym_spec.specs.SymNotes.{empty_note, access_to, uses_buffer, buffer_access, call_access, access_of}
+use Rattle.sym_spec.specs.SymNotes.{instr_note, heap_note, here_note, is_fault, ending_note, note}
+use Rattle.sym_spec.specs.HeapActions.{Outcome, Action, granule_in, grants_placed, grants, moves_placed, moves}
+use Rattle.sym_spec.specs.HeapActions.{releases, is_front, mallocs, callocs, reallocs, frees, function, outcome}
+use Rattle.sym_spec.specs.HeapActions.{answered, returns, returns_with, serves}
+use Rattle.heap_trace.proofs.Blocks.{lives, IsAlive, got, loaded_alive, stored_alive, within_alive, stored_lives}
+use Rattle.heap_trace.proofs.Blocks.{filled_lives, copied_lives, granted_lives, dropped_lives, living_alive}
 
 abbrev pub alive_in : SymMachine → List Bool
 alive_in m = lives m.memory

@@ -1,6 +1,7 @@
 -- The events of a step, with the context of a grant by its number. Contexts are numbered in the order of
 -- their first grant. A step's events come in the order grant, release, access.
-use Rattle.std.specs.Prelude.{◌≡◌, ◌≢◌, ◌⊎◌, ℕ, List, [], ◌∷◌, ◌++◌, Option, Some, None, All, length, take, slice_get, option_map}
+use Rattle.std.specs.Prelude.{◌≡◌, ◌≢◌, ◌⊎◌, ℕ, List, [], ◌∷◌, ◌++◌, Option, Some, None, All, length, take, slice_get}
+use Rattle.std.specs.Prelude.{option_map}
 use Rattle.plan_core.specs.declared.profiles.Event.{Event}
 use Rattle.plan_core.specs.declared.profiles.Event.TheVariants.{Grant, Access, Release}
 use Rattle.site_spec.specs.declared.Site.{Site}

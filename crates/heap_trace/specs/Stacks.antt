@@ -1,6 +1,7 @@
 -- What the fields of a shadow stack keep: the places of near sites in the order of their last calls, and how
 -- many sites come back to each address.
-use Rattle.std.specs.Prelude.{◌≡◌, ◌<◌, ◌^◌, ℕ, List, All, [], ◌∷◌, ◌++◌, map, count_by, nat_eq, position, unwrap_or, Option, None, if◌then◌else◌}
+use Rattle.std.specs.Prelude.{◌≡◌, ◌<◌, ◌^◌, ℕ, List, All, [], ◌∷◌, ◌++◌, map, count_by, nat_eq, position, unwrap_or}
+use Rattle.std.specs.Prelude.{Option, None, if◌then◌else◌}
 use Rattle.std.specs.Set.{remove_key}
 use Rattle.indexmap.specs.IndexMap.{IndexMap, get}
 use Rattle.site_spec.specs.declared.Site.{Site}

@@ -7,7 +7,8 @@ ghost use Rattle.sym_spec.specs.SymNotes.{empty_note, note as note_of};
 ghost use Rattle.sym_machine.specs.Programs.{turn as turn_of};
 ghost use Rattle.sym_machine.specs.Seen.{between};
 ghost use Rattle.profile_text.specs.Profile.{IsProfile};
-ghost use Rattle.heap_trace.specs.Profiles.{Drawn, IsProfileOfTurns, ProfileRan, StepsWithin, IsCutInput, ends_of, program_of};
+ghost use Rattle.heap_trace.specs.Profiles.{Drawn, IsProfileOfTurns, ProfileRan, StepsWithin, IsCutInput, ends_of};
+ghost use Rattle.heap_trace.specs.Profiles.{program_of};
 ghost use Rattle.heap_trace.specs.Recorded.{HasOwnTurns, IsLegal, LedTo, Recorded};
 ghost use Rattle.heap_trace.specs.Traces.{nothing_traced};
 

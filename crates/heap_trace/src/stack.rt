@@ -1,5 +1,6 @@
 // The shadow stack, with the order of its near sites by their last calls and a count for each return address.
-ghost use Rattle.std.specs.Prelude.{◌≡◌, ℕ, ◌+◌, ◌^◌, ◌<◌, ◌++◌, ◌∷◌, [], true, length, nat_eq, position, if◌then◌else◌, None, IfOk, MatchOption, OnOk, OnErr};
+ghost use Rattle.std.specs.Prelude.{◌≡◌, ℕ, ◌+◌, ◌^◌, ◌<◌, ◌++◌, ◌∷◌, [], true, length, nat_eq, position};
+ghost use Rattle.std.specs.Prelude.{if◌then◌else◌, None, IfOk, MatchOption, OnOk, OnErr};
 ghost use Rattle.std.specs.List.{list_any};
 ghost use Rattle.site_spec.specs.declared.Site.{Site as SiteValue};
 ghost use Rattle.indexmap.specs.IndexSet.{spare};

@@ -25,13 +25,15 @@ heap_lines file = flat_map (λ name. heap_line name (heap_entry file name)) heap
 
 unfoldable pub site_line : Site → List ℕ
 site_line s =
-    codes "site " ++ (if s.pair then codes "pair" else codes "jal") ++ codes " " ++ hex8 s.addr ++ codes " " ++ hex8 s.target
+    codes "site " ++ (if s.pair then codes "pair" else codes "jal") ++ codes " " ++ hex8 s.addr ++ codes " "
+    ++ hex8 s.target
     ++ (if s.near then codes " near\n" else codes " far\n")
 
 -- the summary, for the sites of the file in ascending order
 abbrev pub summary_of : List ℕ → List Site → List ℕ
 summary_of file sites =
-    entry_line (e_entry file) ++ flat_map exec_line (execs_of file) ++ heap_lines file ++ flat_map site_line sites ++ codes "end\n"
+    entry_line (e_entry file) ++ flat_map exec_line (execs_of file) ++ heap_lines file ++ flat_map site_line sites
+    ++ codes "end\n"
 
 abbrev pub IsSummary : List ℕ → List ℕ → Type 0
 IsSummary file text = (sites : List Site) × AreSites file sites × (text ≡ summary_of file sites)

@@ -10,7 +10,8 @@ use Rattle.sym_cells.specs.Memory.{Block}
 use Rattle.sym_spec.specs.SymMachine.{SymMachine}
 use Rattle.sym_spec.specs.SymTurns.{turn}
 use Rattle.machine_examples.proofs.HeapFiles.{heap_file}
-use Rattle.machine_examples.proofs.HeapSetup.{heap_plan, before, one_block, called, called_with_block, with_block, heap_turn_opened}
+use Rattle.machine_examples.proofs.HeapSetup.{heap_plan, before, one_block, called, called_with_block, with_block}
+use Rattle.machine_examples.proofs.HeapSetup.{heap_turn_opened}
 use Rattle.machine_examples.proofs.Setup.{small_start}
 
 abbrev next : SymMachine → SymMachine

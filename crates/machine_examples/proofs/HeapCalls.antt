@@ -2,7 +2,8 @@
 -- second program's image ends below 0x11000, so its tables would stand at 0x16000 and its area at 0x160d0.
 use Rattle.std.proofs.Common.{◌≡◌, refl}
 use Rattle.std.specs.Prelude.{ℕ, ⊤, [], ◌∷◌, List, Option, Some, None, option_map, replicate, slice_set}
-use Rattle.elf_spec.specs.declared.HeapName.TheVariants.{Malloc, Calloc, Realloc, Free, MallocR, CallocR, ReallocR, FreeR}
+use Rattle.elf_spec.specs.declared.HeapName.TheVariants.{Malloc, Calloc, Realloc, Free, MallocR, CallocR, ReallocR}
+use Rattle.elf_spec.specs.declared.HeapName.TheVariants.{FreeR}
 use Rattle.plan_core.specs.declared.types.Plan.{Plan}
 use Rattle.place_spec.specs.Layout.{first_layout}
 use Rattle.place_spec.specs.Place.{spot_of, granule_of, taken}

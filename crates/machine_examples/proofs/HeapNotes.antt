@@ -7,7 +7,8 @@ use Rattle.sym_spec.specs.declared.StepNote.{StepNote}
 use Rattle.sym_spec.specs.SymMachine.{SymMachine}
 use Rattle.sym_spec.specs.SymNotes.{empty_note, note}
 use Rattle.machine_examples.proofs.HeapFiles.{heap_file}
-use Rattle.machine_examples.proofs.HeapSetup.{heap_plan, before, with_block, called, called_with_block, heap_turn_opened}
+use Rattle.machine_examples.proofs.HeapSetup.{heap_plan, before, with_block, called, called_with_block}
+use Rattle.machine_examples.proofs.HeapSetup.{heap_turn_opened}
 
 abbrev noted : SymMachine → StepNote
 noted m = note heap_file heap_plan m

@@ -17,7 +17,8 @@ use Rattle.machine_examples.proofs.Setup.{empty_plan, plan_p3}
 
 -- what a proof unfolds to compute the sites of a file that is written out
 unfoldable pub sites_opened : ⊤
-unfolding table read_by decoded half_at word_at segment_at section_at reloc_at symbol_at code_place heap_entries call_at site_at
+unfolding table read_by decoded half_at word_at segment_at section_at reloc_at symbol_at code_place heap_entries call_at
+    site_at
 sites_opened = tt
 
 -- and its new file

@@ -17,7 +17,8 @@ use Rattle.machine_examples.proofs.Setup.{flat_start}
 
 -- what a proof unfolds to compute a run of a file that is written out
 unfoldable pub run_opened : ⊤
-unfolding steps step turn acts calls loaded stored fetched computed is_held table read_by decoded byte_of half_at word_at segment_at
+unfolding steps step turn acts calls loaded stored fetched computed is_held table read_by decoded byte_of half_at
+    word_at segment_at
 run_opened = tt
 
 -- the first program runs after two turns, has exited with 0 after three, and has written nothing

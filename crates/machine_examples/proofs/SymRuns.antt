@@ -21,7 +21,8 @@ use Rattle.machine_examples.proofs.NewFiles.{sites_opened}
 
 -- what a proof unfolds to compute a run of a file that is written out
 unfoldable pub sym_run_opened : ⊤
-unfolding sites_opened steps step turn acts calls here apply decide loaded stored is_within taken filled is_plain is_plain_store back_index computed is_held byte_of
+unfolding sites_opened steps step turn acts calls here apply decide loaded stored is_within taken filled is_plain
+    is_plain_store back_index computed is_held byte_of
 sym_run_opened = tt
 
 -- the first program runs after two turns, has exited with 0 after three, and has written nothing

@@ -1,5 +1,6 @@
 -- Runs, turn by turn.
-use Rattle.std.proofs.Common.{◌≡◌, ℕ, zero, suc, ◌+◌, ◌-◌, ◌<◌, ◌≤◌, List, [], ◌++◌, refl, ap, sym, subst, ◌∙◌, append-nil, add-one, arith, inl}
+use Rattle.std.proofs.Common.{◌≡◌, ℕ, zero, suc, ◌+◌, ◌-◌, ◌<◌, ◌≤◌, List, [], ◌++◌, refl, ap, sym, subst, ◌∙◌}
+use Rattle.std.proofs.Common.{append-nil, add-one, arith, inl}
 use borrow.Author.Count.{below_more}
 use Rattle.std.specs.Prelude.{Option, Some, None, Ok, Err}
 use Rattle.halo_outside.specs.Seen.{AppendsPrefix}
@@ -8,7 +9,8 @@ use Rattle.machine_spec.specs.declared.Ending.TheVariants as ending
 use Rattle.machine_run.specs.declared.RunEnd.TheVariants.{Steps, ReadFault, WriteFault}
 use Rattle.machine_run.specs.Machines.{GoesQuietly, Output, Rules, Seen, Stays, ending_of}
 use Rattle.machine_run.specs.Output.{Passes}
-use Rattle.machine_run.specs.Runs.{State, after, next, steps, run_from, IsRunning, EndsAt, MayLack, IsLeft, IsCutOff, Ran}
+use Rattle.machine_run.specs.Runs.{State, after, next, steps, run_from, IsRunning, EndsAt, MayLack, IsLeft, IsCutOff}
+use Rattle.machine_run.specs.Runs.{Ran}
 use Rattle.machine_run.specs.Serving.{IsDone, Holds}
 use Rattle.machine_run.proofs.Passing.{passes_none, passes_more, passes_part}
 

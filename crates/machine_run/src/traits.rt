@@ -1,5 +1,6 @@
 // What a run needs of a machine.
-ghost use Rattle.std.specs.Prelude.{◌≡◌, ◌≢◌, ◌+◌, ◌<◌, ◌≤◌, ℕ, List, [], ◌++◌, None, IsSome, IsSomeAnd, IfOk, OnErr, length, take, drop};
+ghost use Rattle.std.specs.Prelude.{◌≡◌, ◌≢◌, ◌+◌, ◌<◌, ◌≤◌, ℕ, List, [], ◌++◌, None, IsSome, IsSomeAnd, IfOk, OnErr};
+ghost use Rattle.std.specs.Prelude.{length, take, drop};
 ghost use Rattle.machine_run.specs.Machines.{GoesQuietly, Rules, Seen, WaitsOn, Stays, ending_of, fed_with};
 ghost use Rattle.machine_run.specs.Runs.{MayLack};
 ghost use Rattle.machine_run.specs.Steps.{StepsTo, EndsRead};

@@ -1,7 +1,8 @@
 -- The memory of a file (gABI, "Program Loading"): each segment of kind PT_LOAD with a size in memory
 -- is a range of addresses, which holds the segment's file part and zeros behind it; and above them
 -- stands the stack, which is zero.
-use Rattle.std.specs.Prelude.{ℕ, zero, suc, ◌+◌, ◌-◌, List, [], ◌∷◌, ◌++◌, Bool, true, false, ◌&&◌, filter, map, find, Option, option_map, nat_le, nat_lt, take, drop, replicate, length, slice_index}
+use Rattle.std.specs.Prelude.{ℕ, zero, suc, ◌+◌, ◌-◌, List, [], ◌∷◌, ◌++◌, Bool, true, false, ◌&&◌, filter, map, find}
+use Rattle.std.specs.Prelude.{Option, option_map, nat_le, nat_lt, take, drop, replicate, length, slice_index}
 use Rattle.elf_spec.specs.declared.Segment.{Segment}
 use Rattle.elf_spec.specs.Fields.{is_set}
 use Rattle.elf_spec.specs.Records.{segments_of}

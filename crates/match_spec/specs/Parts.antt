@@ -1,5 +1,6 @@
 -- The parts of a match: registers, memory and the heap.
-use Rattle.std.specs.Prelude.{length, ◌≡◌, ◌≢◌, ℕ, ◌+◌, ◌*◌, ◌%◌, ◌<◌, ◌≤◌, ◌^◌, List, true, false, All, Any, map, Some, slice_get, slice_index}
+use Rattle.std.specs.Prelude.{length, ◌≡◌, ◌≢◌, ℕ, ◌+◌, ◌*◌, ◌%◌, ◌<◌, ◌≤◌, ◌^◌, List, true, false, All, Any, map, Some}
+use Rattle.std.specs.Prelude.{slice_get, slice_index}
 use Rattle.elf_spec.specs.declared.HeapName.{HeapName}
 use Rattle.elf_spec.specs.Memory.{image_end}
 use Rattle.elf_spec.specs.Records.{segments_of}

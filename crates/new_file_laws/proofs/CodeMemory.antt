@@ -1,6 +1,7 @@
 -- The code words of an accepted file: where they are loaded, what they are, and which bytes of memory
 -- are theirs.
-use Rattle.std.proofs.Common.{◌≡◌, ℕ, ◌+◌, ◌-◌, ◌*◌, ◌/◌, ◌%◌, ◌^◌, ◌<◌, ◌≤◌, List, Bool, true, false, ◌&&◌, if◌then◌else◌, length, refl, subst, arith}
+use Rattle.std.proofs.Common.{◌≡◌, ℕ, ◌+◌, ◌-◌, ◌*◌, ◌/◌, ◌%◌, ◌^◌, ◌<◌, ◌≤◌, List, Bool, true, false, ◌&&◌}
+use Rattle.std.proofs.Common.{if◌then◌else◌, length, refl, subst, arith}
 use Rattle.std.specs.Prelude.{Option, Some, None, option_map, nat_eq, nat_le, nat_lt, slice_index, find, All}
 use Rattle.std.specs.List.{list_any}
 use Rattle.std.proofs.lemmas.Bool.Decides.{nat_tests}
@@ -19,7 +20,8 @@ use Rattle.elf_write.specs.Places.{InFile, place_at}
 use Rattle.exec_image.specs.Accepted.{AcceptedFacts, IsCodeAt, IsWords}
 use Rattle.exec_image.specs.Checks.{uses_tp_at}
 use Rattle.exec_image.proofs.Finding.{found_passes, found_some}
-use Rattle.new_file_laws.proofs.Segments.{IsLoadedAt, IsLoadedBy, IsOneOf, all_of, any_of, below_image_end, found_one, in_segment, loaded_place, some_one}
+use Rattle.new_file_laws.proofs.Segments.{IsLoadedAt, IsLoadedBy, IsOneOf, all_of, any_of, below_image_end, found_one}
+use Rattle.new_file_laws.proofs.Segments.{in_segment, loaded_place, some_one}
 
 -- where a code word is
 pub code_there : (file : List ℕ) (a w : ℕ) → code_word file a ≡ Some w

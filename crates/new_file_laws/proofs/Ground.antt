@@ -1,5 +1,6 @@
 -- The new file of an accepted file and a fitting plan is laid out as the simulation asks.
-use Rattle.std.proofs.Common.{◌≡◌, ◌≢◌, ◌⊎◌, ℕ, ◌+◌, ◌-◌, ◌*◌, ◌/◌, ◌<◌, ◌≤◌, List, [], ◌++◌, true, false, length, refl, ap, sym, ◌∙◌, subst, inl, inr, arith}
+use Rattle.std.proofs.Common.{◌≡◌, ◌≢◌, ◌⊎◌, ℕ, ◌+◌, ◌-◌, ◌*◌, ◌/◌, ◌<◌, ◌≤◌, List, [], ◌++◌, true, false, length, refl}
+use Rattle.std.proofs.Common.{ap, sym, ◌∙◌, subst, inl, inr, arith}
 use Rattle.std.specs.Prelude.{Some, None, slice_get, slice_index, All}
 use Rattle.std.proofs.lemmas.List.Elements.{All-append, All-weaker}
 use Rattle.std.proofs.lemmas.Option.{slice_get_within}
@@ -29,17 +30,23 @@ use Rattle.simulation.specs.Ground.{Ground, IsPairSite, IsUnchosen, MemoryGround
 use Rattle.simulation.proofs.Backs.{line_none, second_of}
 use Rattle.elf_write.specs.NewMemory.{NewMemory}
 use Rattle.exec_image.specs.Accepted.{AcceptedFacts}
-use Rattle.new_file_spec.specs.Rewritten.{heap_patches, heap_segments, heap_text, jump_words, patches_for, segments_for, text_for}
+use Rattle.new_file_spec.specs.Rewritten.{heap_patches, heap_segments, heap_text, jump_words, patches_for, segments_for}
+use Rattle.new_file_spec.specs.Rewritten.{text_for}
 use Rattle.new_file_laws.proofs.CodeWords.{IsOfCode, words_apart}
-use Rattle.new_file_laws.proofs.CodeMemory.{byte_word, code_aligned, code_below, code_bytes, code_names, code_small, code_there}
+use Rattle.new_file_laws.proofs.CodeMemory.{byte_word, code_aligned, code_below, code_bytes, code_names, code_small}
+use Rattle.new_file_laws.proofs.CodeMemory.{code_there}
 use Rattle.new_file_laws.proofs.Behind.{HasText}
 use Rattle.new_file_laws.proofs.NewCode.{patched_fetched, text_fetched, unpatched_fetched}
-use Rattle.new_file_laws.proofs.Plains.{IsTextPlace, plain_apart, plain_data, plain_same, plain_there, storable, text_place}
+use Rattle.new_file_laws.proofs.Plains.{IsTextPlace, plain_apart, plain_data, plain_same, plain_there, storable}
+use Rattle.new_file_laws.proofs.Plains.{text_place}
 use Rattle.new_file_laws.proofs.MemoryBytes.{memory_bytes}
-use Rattle.new_file_laws.proofs.Lines.{IsAmong, IsJump, among_behind, among_front, few_sites, has_patch, jumps, length_text, site_lines, text_byte}
+use Rattle.new_file_laws.proofs.Lines.{IsAmong, IsJump, among_behind, among_front, few_sites, has_patch, jumps}
+use Rattle.new_file_laws.proofs.Lines.{length_text, site_lines, text_byte}
 use Rattle.new_file_laws.proofs.SiteKinds.{IsWordOf, few_words, site_is, word_place, words_differ}
-use Rattle.new_file_laws.proofs.HeapEntries.{IsEntry, all_of_names, entry_words, lacks_all, no_heap_word, site_words, two_words}
-use Rattle.new_file_laws.proofs.Texts.{AreTables, HasHeap, Sizes, first_bytes, has_heap, has_text, length-heap_text, short_text, tables_fit}
+use Rattle.new_file_laws.proofs.HeapEntries.{IsEntry, all_of_names, entry_words, lacks_all, no_heap_word, site_words}
+use Rattle.new_file_laws.proofs.HeapEntries.{two_words}
+use Rattle.new_file_laws.proofs.Texts.{AreTables, HasHeap, Sizes, first_bytes, has_heap, has_text, length-heap_text}
+use Rattle.new_file_laws.proofs.Texts.{short_text, tables_fit}
 use Rattle.new_file_laws.proofs.HeapWords.{Firsts, heap_ground}
 
 -- the patch is that of a heap word

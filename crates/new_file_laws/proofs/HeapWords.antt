@@ -1,5 +1,6 @@
 -- The heap's words, its tables and its area in the memory of a new file, as the simulation asks.
-use Rattle.std.proofs.Common.{◌≡◌, ℕ, zero, suc, ◌+◌, ◌-◌, ◌*◌, ◌%◌, ◌^◌, ◌<◌, ◌≤◌, ◌==◌, Bool, true, false, cond, List, [], ◌∷◌, ◌++◌, length, refl, ap, ◌∙◌, subst, arith}
+use Rattle.std.proofs.Common.{◌≡◌, ℕ, zero, suc, ◌+◌, ◌-◌, ◌*◌, ◌%◌, ◌^◌, ◌<◌, ◌≤◌, ◌==◌, Bool, true, false, cond, List}
+use Rattle.std.proofs.Common.{[], ◌∷◌, ◌++◌, length, refl, ap, ◌∙◌, subst, arith}
 use Rattle.std.specs.Prelude.{All, Some, is_some, flat_map, replicate, slice_get, slice_index, unwrap_or}
 use Rattle.std.proofs.lemmas.List.{get_or_append_left, get_or-append_right}
 use Rattle.std.proofs.lemmas.List.Elements.{All-append, All-cons, All-head, All-nil, All-replicate, All-tail}
@@ -30,7 +31,8 @@ use Rattle.elf_write.specs.NewMemory.{NewMemory, range_added}
 use Rattle.exec_image.specs.Accepted.{AcceptedFacts}
 use Rattle.new_file_laws.proofs.Plains.{IsTextPlace}
 use Rattle.new_file_laws.proofs.Behind.{text_range}
-use Rattle.new_file_laws.proofs.NewCode.{byte_in, new_range, patched_fetched, text_byte_there, text_range_there, word_number}
+use Rattle.new_file_laws.proofs.NewCode.{byte_in, new_range, patched_fetched, text_byte_there, text_range_there}
+use Rattle.new_file_laws.proofs.NewCode.{word_number}
 use Rattle.new_file_laws.proofs.Lines.{IsAmong}
 use Rattle.new_file_laws.proofs.HeapEntries.{entry_among, two_words}
 use Rattle.new_file_laws.proofs.Suiting.{end_below, suits}

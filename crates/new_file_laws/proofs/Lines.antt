@@ -1,6 +1,7 @@
 -- The site lines of a fitting plan, the patches that they make, and the stubs that they put into the
 -- new text.
-use Rattle.std.proofs.Common.{◌≡◌, ℕ, zero, suc, ◌+◌, ◌-◌, ◌*◌, ◌<◌, ◌≤◌, List, [], ◌∷◌, ◌++◌, length, refl, ap, sym, ◌∙◌, subst, arith, length-append, Option, Some, None}
+use Rattle.std.proofs.Common.{◌≡◌, ℕ, zero, suc, ◌+◌, ◌-◌, ◌*◌, ◌<◌, ◌≤◌, List, [], ◌∷◌, ◌++◌, length, refl, ap, sym}
+use Rattle.std.proofs.Common.{◌∙◌, subst, arith, length-append, Option, Some, None}
 use Rattle.std.specs.Prelude.{IsSome, All, Any, slice_get, slice_index, flat_map}
 use Rattle.std.proofs.lemmas.List.{get_or_append_left, get_or-append_right}
 use Rattle.std.proofs.lemmas.List.Elements.{All-append, All-cons, All-head, All-nil, All-tail, All-weaker}
@@ -12,7 +13,8 @@ use Rattle.plan_core.specs.declared.types.PlanLine.{PlanLine}
 use Rattle.site_spec.specs.declared.Site.{Site}
 use Rattle.site_spec.specs.Places.{text_at, stub_at}
 use Rattle.site_spec.specs.Plans.{Fits}
-use Rattle.new_file_spec.specs.Rewritten.{jump_words, mark, patch_to, patches_at, patches_from, site_patches, site_stub, stubs_from}
+use Rattle.new_file_spec.specs.Rewritten.{jump_words, mark, patch_to, patches_at, patches_from, site_patches, site_stub}
+use Rattle.new_file_spec.specs.Rewritten.{stubs_from}
 use Rattle.site_spec.specs.Sites.{site_at}
 use Rattle.new_file_spec.specs.Stubs.{stub_words}
 use Rattle.new_file_spec.specs.Rewritten.{patches_for, text_for}

@@ -1,5 +1,6 @@
 -- The bytes with which the memory of a file starts are below 256, where the file's are.
-use Rattle.std.proofs.Common.{◌≡◌, ℕ, zero, suc, ◌-◌, ◌<◌, List, [], ◌∷◌, ◌++◌, Bool, true, false, cond, take, drop, replicate, filter, map, arith}
+use Rattle.std.proofs.Common.{◌≡◌, ℕ, zero, suc, ◌-◌, ◌<◌, List, [], ◌∷◌, ◌++◌, Bool, true, false, cond, take, drop}
+use Rattle.std.proofs.Common.{replicate, filter, map, arith}
 use Rattle.std.specs.Prelude.{Some, option_map, slice_index}
 use Rattle.std.specs.List.{All}
 use Rattle.std.proofs.lemmas.List.Elements.{All-append, All-cons, All-drop, All-head, All-nil, All-tail, All-take}

@@ -1,6 +1,7 @@
 -- What is fetched from the memory of a new file: code words without a patch as in the source, patched
 -- words, and the words of the new text.
-use Rattle.std.proofs.Common.{◌≡◌, ◌⊎◌, ℕ, ◌+◌, ◌-◌, ◌%◌, ◌<◌, ◌≤◌, List, [], ◌∷◌, ◌++◌, true, length, get_or, map, refl, ap, sym, ◌∙◌, subst, arith, inl, inr}
+use Rattle.std.proofs.Common.{◌≡◌, ◌⊎◌, ℕ, ◌+◌, ◌-◌, ◌%◌, ◌<◌, ◌≤◌, List, [], ◌∷◌, ◌++◌, true, length, get_or, map}
+use Rattle.std.proofs.Common.{refl, ap, sym, ◌∙◌, subst, arith, inl, inr}
 use Rattle.std.specs.Prelude.{Some, option_map, replicate, slice_index, filter, All, Any}
 use Rattle.std.proofs.lemmas.List.{get_or_append_left, map-append}
 use Rattle.elf_spec.specs.declared.NewSegment.{NewSegment}
@@ -23,7 +24,8 @@ use Rattle.elf_write.specs.NewMemory.{NewMemory, ranges_behind}
 use Rattle.elf_write.specs.Places.{InFile, place_at}
 use Rattle.elf_write.proofs.Written.{length-front}
 use Rattle.exec_image.specs.Accepted.{AcceptedFacts}
-use Rattle.new_file_laws.proofs.Segments.{IsOneOf, all_of, in_segment, loaded_inside, none_above, range_is, range_or, range_there, some_one}
+use Rattle.new_file_laws.proofs.Segments.{IsOneOf, all_of, in_segment, loaded_inside, none_above, range_is, range_or}
+use Rattle.new_file_laws.proofs.Segments.{range_there, some_one}
 use Rattle.new_file_laws.proofs.CodeWords.{behind_header}
 use Rattle.new_file_laws.proofs.Behind.{HasText, text_range}
 use Rattle.new_file_laws.proofs.CodeMemory.{code_loaded, code_offset, code_segment}

@@ -1,5 +1,6 @@
 -- The patches and the new text of a fitting plan fit an accepted file.
-use Rattle.std.proofs.Common.{◌≡◌, ◌≢◌, ℕ, zero, suc, ◌+◌, ◌-◌, ◌<◌, ◌≤◌, ◌*◌, List, [], ◌∷◌, ◌++◌, length, get_or, refl, ap, sym, ◌∙◌, subst, arith, Option, Some, None}
+use Rattle.std.proofs.Common.{◌≡◌, ◌≢◌, ℕ, zero, suc, ◌+◌, ◌-◌, ◌<◌, ◌≤◌, ◌*◌, List, [], ◌∷◌, ◌++◌, length, get_or}
+use Rattle.std.proofs.Common.{refl, ap, sym, ◌∙◌, subst, arith, Option, Some, None}
 use Rattle.std.specs.Prelude.{All, AllPairs, IsSome, flat_map, slice_get, sum_by, true, false}
 use Rattle.std.proofs.lemmas.Bool.Decides.{nat_tests}
 use Rattle.std.proofs.lemmas.List.Elements.{All-append, All-cons, All-head, All-nil, All-tail, All-weaker}
@@ -24,13 +25,16 @@ use Rattle.site_spec.specs.Sites.{is_heap_word}
 use Rattle.heap_spec.specs.Functions.{entry_of}
 use Rattle.heap_spec.specs.Places.{area_end}
 use Rattle.heap_spec.specs.Service.{Entries}
-use Rattle.new_file_spec.specs.Rewritten.{data_segment, heap_jump, heap_patch, heap_patches, heap_segments, heap_text, jump_words, patch_to, patches_at, patches_for, patches_from, segments_for, text_for, text_segment}
+use Rattle.new_file_spec.specs.Rewritten.{data_segment, heap_jump, heap_patch, heap_patches, heap_segments, heap_text}
+use Rattle.new_file_spec.specs.Rewritten.{jump_words, patch_to, patches_at, patches_for, patches_from, segments_for}
+use Rattle.new_file_spec.specs.Rewritten.{text_for, text_segment}
 use Rattle.new_file_laws.specs.Parts.{AreParts}
 use Rattle.new_file_laws.proofs.CodeWords.{IsOfCode, behind_header, code_alone, tables_left, words_apart}
 use Rattle.new_file_laws.proofs.Plains.{IsTextPlace, text_place}
 use Rattle.new_file_laws.proofs.Lines.{IsJump, IsSiteLine, IsWordAt, each_at, jumps, patches_step, site_lines}
 use Rattle.new_file_laws.proofs.SiteKinds.{few_words, words_differ}
-use Rattle.new_file_laws.proofs.HeapEntries.{IsEntry, all_of_names, entry_words, names_once, patches_of, site_words, two_words}
+use Rattle.new_file_laws.proofs.HeapEntries.{IsEntry, all_of_names, entry_words, names_once, patches_of, site_words}
+use Rattle.new_file_laws.proofs.HeapEntries.{two_words}
 use Rattle.new_file_laws.proofs.Texts.{AreTables, Sizes, length-heap_text, short_text, tables_fit}
 
 -- two lists of patches that are apart, and apart from each other, are apart
@@ -228,7 +232,8 @@ all_apart file plan at facts fits =
     between : (p : Patch) → IsJump file 0 plan.sites p → All (IsApart p) (heap_patches file at)
     between p jump =
         All-weaker (IsEntry file at heap_names) (IsApart p)
-        (λ q entry. site_and_entry file plan at p q facts jump entry) (heap_patches file at) (all_of_names file at heap_names)
+        (λ q entry. site_and_entry file plan at p q facts jump entry) (heap_patches file at)
+        (all_of_names file at heap_names)
 
 heap_added : (file : List ℕ) (plan : Plan) (words : List ℕ) → AcceptedFacts file → Fits file plan
     → length words ≤ 4096 → AreTables plan.area (data_at file)

@@ -1,6 +1,7 @@
 -- The plain bytes of an accepted file in the memory of its new file: as in the source, and to be
 -- stored to as there.
-use Rattle.std.proofs.Common.{◌≡◌, ◌⊎◌, ℕ, ◌+◌, ◌-◌, ◌*◌, ◌/◌, ◌%◌, ◌<◌, ◌≤◌, List, [], ◌∷◌, Bool, true, false, not, ◌&&◌, ◌||◌, get_or, max, refl, ap, sym, ◌∙◌, subst, arith, inl, inr}
+use Rattle.std.proofs.Common.{◌≡◌, ◌⊎◌, ℕ, ◌+◌, ◌-◌, ◌*◌, ◌/◌, ◌%◌, ◌<◌, ◌≤◌, List, [], ◌∷◌, Bool, true, false, not}
+use Rattle.std.proofs.Common.{◌&&◌, ◌||◌, get_or, max, refl, ap, sym, ◌∙◌, subst, arith, inl, inr}
 use Rattle.std.specs.Prelude.{Some, None, is_some, nat_le, nat_lt, All}
 use Rattle.std.specs.List.{list_any}
 use Rattle.std.proofs.lemmas.Bool.Decides.{nat_tests}
@@ -22,7 +23,8 @@ use Rattle.elf_write.specs.Places.{place_at, place_in}
 use Rattle.exec_image.specs.Accepted.{AcceptedFacts}
 use Rattle.exec_image.proofs.Finding.{found_passes, found_some}
 use Rattle.new_file_laws.proofs.CodeWords.{IsOfCode}
-use Rattle.new_file_laws.proofs.Segments.{IsLoadedAt, IsLoadedBy, IsOneOf, any_of, below_image_end, found_one, loaded_inside, one_address, place_above, place_there}
+use Rattle.new_file_laws.proofs.Segments.{IsLoadedAt, IsLoadedBy, IsOneOf, any_of, below_image_end, found_one}
+use Rattle.new_file_laws.proofs.Segments.{loaded_inside, one_address, place_above, place_there}
 use Rattle.new_file_laws.proofs.CodeMemory.{byte_word, code_below, code_bytes, code_loaded}
 use Rattle.new_file_laws.proofs.Behind.{HasText, OnStack, stack_there, stack_writable}
 use Rattle.new_file_laws.proofs.NewCode.{byte_in, new_range, stores_there}

@@ -1,7 +1,8 @@
 -- The file that a plan makes of an executable: each chosen site goes to its stub, and the stubs stand
 -- in a new text segment behind the mark. With heap functions, the entry of each goes to the heap's words,
 -- which stand in the same segment, and a segment of data has the heap's tables and its area.
-use Rattle.std.specs.Prelude.{◌≡◌, ℕ, ◌+◌, ◌-◌, ◌≤◌, List, [], ◌∷◌, ◌++◌, Bool, true, false, nat_lt, Option, Some, None, codes, flat_map, replicate, length, if◌then◌else◌}
+use Rattle.std.specs.Prelude.{◌≡◌, ℕ, ◌+◌, ◌-◌, ◌≤◌, List, [], ◌∷◌, ◌++◌, Bool, true, false, nat_lt, Option, Some, None}
+use Rattle.std.specs.Prelude.{codes, flat_map, replicate, length, if◌then◌else◌}
 use Rattle.rv_isa.specs.declared.Instr.TheVariants.{Auipc, Jal, Jalr}
 use Rattle.rv_isa.specs.Encoded.{encoded}
 use Rattle.rv_isa.specs.Split.{split_of}

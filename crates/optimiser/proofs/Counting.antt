@@ -1,5 +1,7 @@
 -- The contexts of a legal list of events are numbered from 0 without a gap, so that its nodes count each grant once.
-use Rattle.std.proofs.Common.{◌≡◌, ◌∙◌, ℕ, suc, ◌+◌, ◌^◌, ◌<◌, ◌≤◌, inl, inr, ◌==◌, ◌&&◌, nat_lt, nat_le, Bool, true, false, cond, List, [], ◌∷◌, ◌++◌, length, length-append, append_assoc, append-nil, refl, sym, ap, subst, arith}
+use Rattle.std.proofs.Common.{◌≡◌, ◌∙◌, ℕ, suc, ◌+◌, ◌^◌, ◌<◌, ◌≤◌, inl, inr, ◌==◌, ◌&&◌, nat_lt, nat_le, Bool, true}
+use Rattle.std.proofs.Common.{false, cond, List, [], ◌∷◌, ◌++◌, length, length-append, append_assoc, append-nil, refl}
+use Rattle.std.proofs.Common.{sym, ap, subst, arith}
 use Rattle.std.specs.Prelude.{count_by, sum_by, slice_index_or, if◌then◌else◌}
 use Rattle.std.proofs.lemmas.Bool.{eqb-true, or_left, or_right, or_cases, both_ways}
 use Rattle.std.proofs.lemmas.Bool.Decides.{nat_tests}
@@ -116,7 +118,14 @@ counts_split k n [] = refl
 counts_split k n (x ∷ xs) =
     let here = splits k n x in
     let later = counts_split k n xs in
-    omega (arith, here, later, sum_by-cons (λ y. one (y == k)) x xs, sum_by-cons (λ y. one (is_from (k + 1) n y)) x xs, sum_by-cons (λ y. one (is_from k (n + 1) y)) x xs)
+    omega (
+      arith,
+      here,
+      later,
+      sum_by-cons (λ y. one (y == k)) x xs,
+      sum_by-cons (λ y. one (is_from (k + 1) n y)) x xs,
+      sum_by-cons (λ y. one (is_from k (n + 1) y)) x xs,
+    )
 
 sum_from : (nodes : List Node) (k : ℕ) (xs : List ℕ)
     → ((c : ℕ) (d : Node) → c < length nodes → (slice_index_or nodes c d).grants ≡ count_by (λ x. x == k + c) xs)

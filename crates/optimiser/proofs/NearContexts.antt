@@ -1,5 +1,6 @@
 -- The contexts of a run have addresses of near sites of its file alone: the sites on its stack are the file's.
-use Rattle.std.proofs.Common.{◌≡◌, ℕ, zero, suc, ◌+◌, inl, inr, ◌==◌, ◌&&◌, ◌||◌, Bool, true, false, not, List, [], ◌∷◌, ◌++◌, Option, Some, None, refl, sym, ap, subst, arith}
+use Rattle.std.proofs.Common.{◌≡◌, ℕ, zero, suc, ◌+◌, inl, inr, ◌==◌, ◌&&◌, ◌||◌, Bool, true, false, not, List, [], ◌∷◌}
+use Rattle.std.proofs.Common.{◌++◌, Option, Some, None, refl, sym, ap, subst, arith}
 use Rattle.std.specs.Prelude.{All, filter, map, if◌then◌else◌}
 use Rattle.std.specs.List.{list_any}
 use Rattle.std.proofs.lemmas.Bool.{eqb-true, or_left, or_right, or_cases, both_ways}
@@ -15,7 +16,8 @@ use Rattle.site_spec.specs.Sites.{call_at, code_at, is_call_of_code, kept_site, 
 use Rattle.sym_spec.specs.declared.StepNote.{StepNote}
 use Rattle.sym_spec.specs.SymMachine.{SymMachine}
 use Rattle.sym_spec.specs.SymNotes.{note}
-use Rattle.sym_spec.specs.Contexts.{comes_back_to, cut, pushed, left_by, called, stack_after, last_of_equal, is_near, addr_of, context_of}
+use Rattle.sym_spec.specs.Contexts.{comes_back_to, cut, pushed, left_by, called, stack_after, last_of_equal, is_near}
+use Rattle.sym_spec.specs.Contexts.{addr_of, context_of}
 use Rattle.heap_trace.specs.Events.{Traced, Granted}
 use Rattle.heap_trace.specs.Traces.{Leads, LeadsOn, nothing_traced}
 use Rattle.plan_making.specs.Plans.{AreNearSites}

@@ -1,5 +1,6 @@
 -- What the tables need to know before a block is placed or released.
-use Rattle.std.proofs.Common.{◌≡◌, ◌≢◌, ℕ, zero, suc, ◌+◌, ◌-◌, ◌*◌, ◌<◌, ◌≤◌, cond, Bool, true, false, List, [], ◌∷◌, length, get_or, sym, subst, inl, inr, refl, ap, arith}
+use Rattle.std.proofs.Common.{◌≡◌, ◌≢◌, ℕ, zero, suc, ◌+◌, ◌-◌, ◌*◌, ◌<◌, ◌≤◌, cond, Bool, true, false, List, [], ◌∷◌}
+use Rattle.std.proofs.Common.{length, get_or, sym, subst, inl, inr, refl, ap, arith}
 use Rattle.std.specs.Prelude.{Option, Some, None, nat_lt, All, replicate, slice_set, option_map}
 use Rattle.std.proofs.lemmas.Bool.{ltb-false}
 use Rattle.plan_core.specs.declared.types.Area.{Area}
@@ -9,7 +10,8 @@ use Rattle.place_spec.specs.declared.parts.Spot.{Spot}
 use Rattle.place_spec.specs.declared.parts.Spot.TheVariants.{Current, Fresh, Front}
 use Rattle.place_spec.specs.Layout.{Block, Layout, first_layout, chunk_of, idle_chunk, chunk_front}
 use Rattle.place_spec.specs.Place.{spot_of, granule_of, taken, with_block, placed_at}
-use Rattle.place_spec.specs.Release.{freed, chunk_at, block_at, layout_without, released_block, released, with_hole, left_with, left_chunk, is_current}
+use Rattle.place_spec.specs.Release.{freed, chunk_at, block_at, layout_without, released_block, released, with_hole}
+use Rattle.place_spec.specs.Release.{left_with, left_chunk, is_current}
 use Rattle.place_spec.specs.Sound.{Apart, OnOneSide}
 use Rattle.place_spec.proofs.Lists.{Each, Pairs, all}
 use Rattle.place_spec.proofs.Blocks.{Differ}
@@ -65,58 +67,73 @@ pub record IsNew (area : Area) (layout : Layout) (need granule : ℕ) : Type 0 w
   pub inside : granule + need ≤ granules area
   pub others : Each (λ b. b.first ≢ granule) layout.blocks
 
-filled : (area : Area) (layout : Layout) (xs : List Block) → Each (Stands area layout) xs → Each (λ b. 0 < b.granules) xs
+filled : (area : Area) (layout : Layout) (xs : List Block) → Each (Stands area layout) xs
+    → Each (λ b. 0 < b.granules) xs
 filled area layout [] e = tt
 filled area layout (x ∷ xs) e = (e.0.filled, filled area layout xs e.1)
 
-pub new_block : (area : Area) (layout : Layout) (need : ℕ) (group : Option ℕ) (spot : Spot) → Parts area layout → 1 ≤ need
-    → ((g : ℕ) → group ≡ Some g → g < 16) → spot_of area layout need group ≡ Some spot → IsNew area layout need (granule_of area layout spot)
+pub new_block : (area : Area) (layout : Layout) (need : ℕ) (group : Option ℕ) (spot : Spot) → Parts area layout
+    → 1 ≤ need
+    → ((g : ℕ) → group ≡ Some g → g < 16) → spot_of area layout need group ≡ Some spot
+    → IsNew area layout need (granule_of area layout spot)
 new_block area layout need group spot p some small e =
     let after = (placed_at area layout need group spot).after in
-    let q = placed_in_parts area layout need group (placed_at area layout need group spot) p some small (ap (option_map (placed_at area layout need group)) e) in
+    let q = placed_in_parts area layout need group (placed_at area layout need group spot) p some small
+    (ap (option_map (placed_at area layout need group)) e) in
     let b : Block = record { first = granule_of area layout spot; granules = need; group = group } in
     record {
       inside = (each_new (Stands area after) b (taken need spot layout).blocks q.blocks).inside;
       others = subst (λ xs. Each (λ x. x.first ≢ granule_of area layout spot) xs) (same_blocks need spot layout)
-          (pairs_new b (taken need spot layout).blocks (differ after.blocks (filled area after after.blocks q.blocks) q.apart));
+          (pairs_new b (taken need spot layout).blocks (differ after.blocks (filled area after after.blocks q.blocks)
+          q.apart));
     }
 
 -- few live blocks in each chunk
 pub few_first : (area : Area) → FewLive (first_layout area)
 few_first area k = at area.chunks k
   where
-    at : (n k : ℕ) → (get_or (replicate n idle_chunk) k idle_chunk).live ≤ (get_or (replicate n idle_chunk) k idle_chunk).bump
+    at : (n k : ℕ) → (get_or (replicate n idle_chunk) k idle_chunk).live ≤
+        (get_or (replicate n idle_chunk) k idle_chunk).bump
     at zero k = omega arith
     at (suc n) zero = omega arith
     at (suc n) (suc k) = at n k
 
-pub few_placed : (area : Area) (layout : Layout) (need : ℕ) (group : Option ℕ) (spot : Spot) → 1 ≤ need → IsFree area layout need spot
+pub few_placed : (area : Area) (layout : Layout) (need : ℕ) (group : Option ℕ) (spot : Spot) → 1 ≤ need
+    → IsFree area layout need spot
     → FewLive layout → FewLive (placed_at area layout need group spot).after
 unfolding taken
 few_placed area layout need group (Current k) some f l =
-    at_item (λ j c. c.live ≤ c.bump) layout.chunks k _ idle_chunk f.0 (let m = l k in omega (arith, m, some)) (λ j n. l j)
+    at_item (λ j c. c.live ≤ c.bump) layout.chunks k _ idle_chunk f.0 (let m = l k in omega (arith, m, some))
+    (λ j n. l j)
 few_placed area layout need group (Fresh g k) some f l =
     at_item (λ j c. c.live ≤ c.bump) layout.chunks k _ idle_chunk f.1 some (λ j n. l j)
 few_placed area layout need group (Front i) some f l = l
 
-few_left : (n : ℕ) (cur : Bool) (c : Chunk) → n ≤ c.live → c.live ≤ c.bump → (left_with n cur c).live ≤ (left_with n cur c).bump
+few_left : (n : ℕ) (cur : Bool) (c : Chunk) → n ≤ c.live → c.live ≤ c.bump
+    → (left_with n cur c).live ≤ (left_with n cur c).bump
 few_left zero cur c l m = omega arith
 few_left (suc n) cur c l m = omega (arith, l, m)
 
-pub few_released : (area : Area) (layout : Layout) (granule : ℕ) → Parts area layout → FewLive layout → FewLive (released area layout granule)
+pub few_released : (area : Area) (layout : Layout) (granule : ℕ) → Parts area layout → FewLive layout
+    → FewLive (released area layout granule)
 unfolding freed
 few_released area layout granule p l = at (block_at layout granule) refl
   where
     in_chunk : (k : ℕ) → k < length layout.chunks → (j : ℕ)
         → (get_or (slice_set layout.chunks k (left_chunk layout k (chunk_of layout k))) j idle_chunk).live
         ≤ (get_or (slice_set layout.chunks k (left_chunk layout k (chunk_of layout k))) j idle_chunk).bump
-    in_chunk k w = at_item (λ j c. c.live ≤ c.bump) layout.chunks k (left_chunk layout k (chunk_of layout k)) idle_chunk w
-        (few_left ((chunk_of layout k).live - 1) (is_current layout k (chunk_of layout k).owner) (chunk_of layout k) (omega arith) (l k)) (λ j n. l j)
+    in_chunk k w = at_item (λ j c. c.live ≤ c.bump) layout.chunks k (left_chunk layout k (chunk_of layout k)) idle_chunk
+        w
+        (few_left ((chunk_of layout k).live - 1) (is_current layout k (chunk_of layout k).owner) (chunk_of layout k)
+        (omega arith) (l k)) (λ j n. l j)
 
     by_side : (b : Block) → block_at layout granule ≡ Some b → (t : Bool) → nat_lt b.first area.fallback ≡ t
         → FewLive (layout_without b.first (cond t
         (record layout { holes = with_hole (record { start = b.first; length = b.granules }) layout.holes })
-        (record layout { chunks = slice_set layout.chunks (chunk_at area b.first) (left_chunk layout (chunk_at area b.first) (chunk_of layout (chunk_at area b.first))) })))
+        (record layout {
+          chunks = slice_set layout.chunks (chunk_at area b.first)
+              (left_chunk layout (chunk_at area b.first) (chunk_of layout (chunk_at area b.first)));
+        })))
     by_side b u true s = l
     by_side b u false s =
         let own : Stands area layout b = stands area layout p granule b u in
@@ -132,9 +149,11 @@ few_released area layout granule p l = at (block_at layout granule) refl
 pub record MayAdd (area : Area) (layout : Layout) (b : Block) : Type 0 where
   pub apart : All (λ h. Apart b.first b.granules h.start h.length) layout.holes
   pub end : b.first + b.granules ≤ area.fallback
-  pub few_holes : 2 * length (with_hole (record { start = b.first; length = b.granules }) layout.holes) ≤ area.fallback + 1
+  pub few_holes : 2 * length (with_hole (record { start = b.first; length = b.granules }) layout.holes) ≤ area.fallback
+      + 1
 
-pub may_add : (area : Area) (layout : Layout) (granule : ℕ) (b : Block) → Parts area layout → block_at layout granule ≡ Some b
+pub may_add : (area : Area) (layout : Layout) (granule : ℕ) (b : Block) → Parts area layout
+    → block_at layout granule ≡ Some b
     → b.first < area.fallback → MayAdd area layout b
 may_add area layout granule b p found low =
     let own : Stands area layout b = stands area layout p granule b found in

@@ -35,7 +35,8 @@ pub spot_none : (area : Area) (s : Layout) (need : ℕ) → front_spot s need �
 unfolding spot_of
 spot_none area s need = refl
 
-pub spot_large : (area : Area) (s : Layout) (need g : ℕ) → chunk_size area < need → front_spot s need ≡ spot_of area s need (Some g)
+pub spot_large : (area : Area) (s : Layout) (need g : ℕ) → chunk_size area < need
+    → front_spot s need ≡ spot_of area s need (Some g)
 unfolding spot_of
 spot_large area s need g l = sym (ap (chooses area s need g) (lt-leb need (chunk_size area) l))
 
@@ -44,11 +45,13 @@ pub spot_chunk : (area : Area) (s : Layout) (need g : ℕ) (spot : Spot) → nee
 unfolding spot_of
 spot_chunk area s need g spot l e =
     sym (ap (chooses area s need g) (le-leb need (chunk_size area) l)
-    ∙ (sym (or_or (current_spot area s need g) (fresh_spot s g) (front_spot s need)) ∙ ap (λ o. option_or o (front_spot s need)) e))
+    ∙ (sym (or_or (current_spot area s need g) (fresh_spot s g) (front_spot s need))
+    ∙ ap (λ o. option_or o (front_spot s need)) e))
 
 pub spot_front : (area : Area) (s : Layout) (need g : ℕ) → need ≤ chunk_size area
     → option_or (current_spot area s need g) (fresh_spot s g) ≡ None → front_spot s need ≡ spot_of area s need (Some g)
 unfolding spot_of
 spot_front area s need g l e =
     sym (ap (chooses area s need g) (le-leb need (chunk_size area) l)
-    ∙ (sym (or_or (current_spot area s need g) (fresh_spot s g) (front_spot s need)) ∙ ap (λ o. option_or o (front_spot s need)) e))
+    ∙ (sym (or_or (current_spot area s need g) (fresh_spot s g) (front_spot s need))
+    ∙ ap (λ o. option_or o (front_spot s need)) e))

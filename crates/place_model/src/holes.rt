@@ -1,5 +1,6 @@
 // The holes of the fallback, in ascending order.
-ghost use Rattle.std.specs.Prelude.{◌≡◌, ℕ, ◌+◌, ◌-◌, ◌^◌, ◌<◌, ◌≤◌, ◌↔◌, ◌==◌, nat_le, length, position, All, AllPairs, IsTrue, insert, vec_capacity};
+ghost use Rattle.std.specs.Prelude.{◌≡◌, ℕ, ◌+◌, ◌-◌, ◌^◌, ◌<◌, ◌≤◌, ◌↔◌, ◌==◌, nat_le, length, position, All};
+ghost use Rattle.std.specs.Prelude.{AllPairs, IsTrue, insert, vec_capacity};
 ghost use Rattle.place_spec.specs.Layout.{hole_of};
 ghost use Rattle.place_spec.specs.Place.{cut_holes};
 ghost use Rattle.place_spec.specs.Release.{with_hole};

@@ -1,5 +1,6 @@
 // Placing, releasing and moving blocks by their addresses.
-ghost use Rattle.std.specs.Prelude.{◌≡◌, ℕ, ◌+◌, ◌<◌, ◌≤◌, ◌^◌, ◌↔◌, All, length, ◌≢◌, IsTrue, IsSome, IsNone, IfOk, IfSome, IfNone};
+ghost use Rattle.std.specs.Prelude.{◌≡◌, ℕ, ◌+◌, ◌<◌, ◌≤◌, ◌^◌, ◌↔◌, All, length, ◌≢◌, IsTrue, IsSome, IsNone, IfOk};
+ghost use Rattle.std.specs.Prelude.{IfSome, IfNone};
 ghost use Rattle.plan_core.specs.Plan.{granules, group_of_bits};
 ghost use Rattle.place_spec.specs.Layout.{first_layout, granules_for, address_of};
 ghost use Rattle.place_spec.specs.Place.{IsRefused};

@@ -1,5 +1,7 @@
 // The layout of a heap, kept in flat tables.
-ghost use Rattle.std.specs.Prelude.{◌≡◌, ℕ, Some, ◌+◌, ◌-◌, ◌/◌, ◌^◌, ◌<◌, ◌≤◌, ◌↔◌, length, slice_set, slice_index_or, is_none, position, [], ◌∷◌, ◌==◌, if◌then◌else◌, IsTrue, IfOk, All, Any, vec_capacity};
+ghost use Rattle.std.specs.Prelude.{◌≡◌, ℕ, Some, ◌+◌, ◌-◌, ◌/◌, ◌^◌, ◌<◌, ◌≤◌, ◌↔◌, length, slice_set, slice_index_or};
+ghost use Rattle.std.specs.Prelude.{is_none, position, [], ◌∷◌, ◌==◌, if◌then◌else◌, IsTrue, IfOk, All, Any};
+ghost use Rattle.std.specs.Prelude.{vec_capacity};
 ghost use Rattle.std.specs.Option.{option_or};
 ghost use Rattle.plan_core.specs.Plan.{granules};
 ghost use Rattle.place_spec.specs.Layout.{first_layout, current_of, chunk_of, chunk_size};

@@ -1,5 +1,6 @@
 -- A block that is placed at a chunk's bump, whether the chunk was its group's current one or had no owner.
-use Rattle.std.proofs.Common.{◌≡◌, ◌≢◌, ℕ, ◌+◌, ◌<◌, ◌≤◌, ◌⊎◌, cond, length, sym, ◌∙◌, subst, inl, inr, refl, ap, arith, length-set}
+use Rattle.std.proofs.Common.{◌≡◌, ◌≢◌, ℕ, ◌+◌, ◌<◌, ◌≤◌, ◌⊎◌, cond, length, sym, ◌∙◌, subst, inl, inr, refl, ap, arith}
+use Rattle.std.proofs.Common.{length-set}
 use Rattle.std.specs.Prelude.{Option, Some, None, count_by, slice_set}
 use Rattle.std.proofs.lemmas.List.{get_or-set_other}
 use Rattle.std.proofs.lemmas.Bool.{cases_eq, cases_lt}
@@ -15,10 +16,20 @@ use Rattle.place_spec.proofs.SoundParts.{BlocksApart, apart_sym, Stands, Keeps, 
 
 -- the block that is placed, the chunk with it, and the layout after it
 abbrev pub entering : Area → Layout → (need g k : ℕ) → Block
-entering area layout need g k = record { first = chunk_front area k + (chunk_of layout k).bump; granules = need; group = Some g }
+entering area layout need g k = record {
+  first = chunk_front area k + (chunk_of layout k).bump;
+  granules = need;
+  group =
+      Some g;
+}
 
 abbrev pub entered : Layout → (need g k : ℕ) → Chunk
-entered layout need g k = record { owner = Some g; bump = (chunk_of layout k).bump + need; live = (chunk_of layout k).live + 1 }
+entered layout need g k = record {
+  owner = Some g;
+  bump = (chunk_of layout k).bump + need;
+  live =
+      (chunk_of layout k).live + 1;
+}
 
 abbrev pub enters : Area → Layout → (need g k : ℕ) → Layout
 enters area layout need g k = record {
@@ -109,7 +120,8 @@ module _ (area : Area) (layout : Layout) (need g k : ℕ) (m : MayEnter area lay
         layout.chunks k (entered layout need g k) idle_chunk at_k
         (λ l i. refl) (λ j n l i. absurd (n (in_one area j k b i in_k)));
     group = λ h e. let q : g ≡ h = cc in subst (λ x. x < 16) q m.small;
-    holes = each_map (λ h. h.start + h.length ≤ area.fallback) (λ h. Apart b.first b.granules h.start h.length) layout.holes
+    holes = each_map (λ h. h.start + h.length ≤ area.fallback) (λ h. Apart b.first b.granules h.start h.length)
+        layout.holes
         (λ h l. let f = front_from area k in inr (omega (arith, l, f, from))) m.parts.inside;
   }
 
@@ -120,7 +132,8 @@ module _ (area : Area) (layout : Layout) (need g k : ℕ) (m : MayEnter area lay
       let i = ap (λ v. cond v 1 0 + count_by (is_in_chunk area k) layout.blocks) (in_true area k b in_k) in
       let c = (m.parts.keeps k m.within).counted in omega (arith, w, i, c)
 
-  counted_there : (j : ℕ) → j ≢ k → j < area.chunks → count_by (is_in_chunk area j) new.blocks ≡ (chunk_of layout j).live
+  counted_there : (j : ℕ) → j ≢ k → j < area.chunks → count_by (is_in_chunk area j) new.blocks
+      ≡ (chunk_of layout j).live
   counted_there j n l =
       let w = count_with (is_in_chunk area j) b layout.blocks in
       let i = ap (λ v. cond v 1 0 + count_by (is_in_chunk area j) layout.blocks)
@@ -142,12 +155,14 @@ module _ (area : Area) (layout : Layout) (need g k : ℕ) (m : MayEnter area lay
           by_group h (inr e) = λ q. f h (current_there h e ∙ q)
 
       at : (o : Option ℕ) → current_of layout g ≡ o → 0 < (chunk_of layout j).live
-      at None e = no_other (λ h q r. absurd (let t : current_of layout h ≡ current_of layout g = ap (current_of layout) q in cc))
+      at None e = no_other (λ h q r. absurd (let t : current_of layout h ≡ current_of layout g =
+          ap (current_of layout) q in cc))
       at (Some i) e = by_number (cases_eq i j)
         where
           by_number : (i ≡ j) ⊎ (i ≡ j → ⊥) → 0 < (chunk_of layout j).live
           by_number (inl q) = m.left j (e ∙ ap (λ x. Some x) q) n
-          by_number (inr q) = no_other (λ h p r. let t : current_of layout h ≡ current_of layout g = ap (current_of layout) p in
+          by_number (inr q) = no_other (λ h p r. let t : current_of layout h ≡ current_of layout g =
+              ap (current_of layout) p in
               let u : Some i ≡ Some j = cc in let v : i ≡ j = cc in q v)
 
   keeps_here : k < area.chunks → Keeps area new k (entered layout need g k)
@@ -194,14 +209,19 @@ module _ (area : Area) (layout : Layout) (need g k : ℕ) (m : MayEnter area lay
   enter_parts = record {
     groups = length-set layout.currents g (Some k) ∙ m.parts.groups;
     chunks = length-set layout.chunks k (entered layout need g k) ∙ m.parts.chunks;
-    blocks = each_with (Stands area new) b layout.blocks new_stands (each_map (Stands area layout) (Stands area new) layout.blocks old_stands m.parts.blocks);
-    apart = pairs_with BlocksApart b layout.blocks apart_sym (each_map (Stands area layout) (BlocksApart b) layout.blocks old_apart m.parts.blocks) m.parts.apart;
+    blocks = each_with (Stands area new) b layout.blocks new_stands
+        (each_map (Stands area layout) (Stands area new) layout.blocks old_stands m.parts.blocks);
+    apart = pairs_with BlocksApart b layout.blocks apart_sym
+        (each_map (Stands area layout) (BlocksApart b) layout.blocks old_apart m.parts.blocks) m.parts.apart;
     covered = λ i l. still i (m.parts.covered i l);
     ascends = m.parts.ascends;
     inside = m.parts.inside;
-    keeps = at_item (λ j c. j < area.chunks → Keeps area new j c) layout.chunks k (entered layout need g k) idle_chunk at_k keeps_here keeps_there;
-    currents = λ h j. at_item (λ h o. o ≡ Some j → (j < area.chunks) × ((chunk_of new j).owner ≡ Some h)) layout.currents g (Some k) None
-        (let s = m.small in let e = m.parts.groups in omega (arith, s, e)) (this_current j) (λ h n. new_current h j n) h;
+    keeps = at_item (λ j c. j < area.chunks → Keeps area new j c) layout.chunks k (entered layout need g k) idle_chunk
+        at_k keeps_here keeps_there;
+    currents = λ h j. at_item (λ h o. o ≡ Some j → (j < area.chunks) × ((chunk_of new j).owner ≡ Some h))
+        layout.currents g (Some k) None
+        (let s = m.small in let e = m.parts.groups in omega (arith, s, e)) (this_current j) (λ h n. new_current h j n)
+        h;
     owners = λ j h. at_item (λ i c. c.owner ≡ Some h → h < 16) layout.chunks k (entered layout need g k) idle_chunk at_k
         (λ e. let q : g ≡ h = cc in subst (λ x. x < 16) q m.small) (λ i n e. m.parts.owners i h e) j;
   }

@@ -88,8 +88,10 @@ module _ (area : Area) (layout : Layout) (need i : ℕ) (group : Option ℕ) (m 
   front_parts = record {
     groups = m.parts.groups;
     chunks = m.parts.chunks;
-    blocks = each_with (Stands area new) b layout.blocks new_stands (each_map (Stands area layout) (Stands area new) layout.blocks old_stands m.parts.blocks);
-    apart = pairs_with BlocksApart b layout.blocks apart_sym (each_map (Stands area layout) (BlocksApart b) layout.blocks old_apart m.parts.blocks) m.parts.apart;
+    blocks = each_with (Stands area new) b layout.blocks new_stands
+        (each_map (Stands area layout) (Stands area new) layout.blocks old_stands m.parts.blocks);
+    apart = pairs_with BlocksApart b layout.blocks apart_sym
+        (each_map (Stands area layout) (BlocksApart b) layout.blocks old_apart m.parts.blocks) m.parts.apart;
     covered = λ j l. still j (m.parts.covered j l);
     ascends = cuts.ascends;
     inside = cuts.inside;
@@ -104,7 +106,8 @@ module _ (area : Area) (layout : Layout) (need i : ℕ) (group : Option ℕ) (m 
     owners = m.parts.owners;
   }
     where
-      split : (j : ℕ) → (((hole_of layout.holes i).start ≤ j) × (j < (hole_of layout.holes i).start + need)) ⊎ Has (λ h. Frees h j) new.holes
+      split : (j : ℕ) → (((hole_of layout.holes i).start ≤ j) × (j < (hole_of layout.holes i).start + need))
+          ⊎ Has (λ h. Frees h j) new.holes
           → Has (λ x. Covers x j) new.blocks ⊎ Has (λ h. Frees h j) new.holes
       split j (inl q) = inl (has_new (λ x. Covers x j) b layout.blocks q)
       split j (inr q) = inr q

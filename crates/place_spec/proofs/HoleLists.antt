@@ -1,5 +1,6 @@
 -- Ascending holes: with one more, and with the front of one taken.
-use Rattle.std.proofs.Common.{◌≡◌, ℕ, zero, suc, ◌+◌, ◌-◌, ◌*◌, ◌<◌, ◌≤◌, ◌⊎◌, ◌==◌, ◌≢◌, cond, Bool, true, false, List, [], ◌∷◌, length, sym, inl, inr, refl, ap, arith}
+use Rattle.std.proofs.Common.{◌≡◌, ℕ, zero, suc, ◌+◌, ◌-◌, ◌*◌, ◌<◌, ◌≤◌, ◌⊎◌, ◌==◌, ◌≢◌, cond, Bool, true, false, List}
+use Rattle.std.proofs.Common.{[], ◌∷◌, length, sym, inl, inr, refl, ap, arith}
 use Rattle.std.specs.Prelude.{nat_lt, min, remove, slice_set}
 use Rattle.std.proofs.lemmas.Bool.{ltb-true, ltb-false, eqb-true, eqb-false, cases_lt}
 use Rattle.place_spec.specs.declared.parts.Hole.{Hole}
@@ -21,20 +22,31 @@ ascends_lower lo lo' (h ∷ hs) l a = (omega arith, a.1)
 abbrev pub Before : Hole → Hole → Type 0
 Before h x = h.start + h.length < x.start
 
-pub ascends_from : (lo : ℕ) (hs : List Hole) → Each (λ h. lo ≤ h.start) hs → Pairs Before hs → Each (λ h. 0 < h.length) hs → Ascends lo hs
+pub ascends_from : (lo : ℕ) (hs : List Hole) → Each (λ h. lo ≤ h.start) hs → Pairs Before hs
+    → Each (λ h. 0 < h.length) hs → Ascends lo hs
 ascends_from lo [] e p f = tt
-ascends_from lo (h ∷ hs) e p f =
-    (e.0, (f.0, ascends_from (h.start + h.length + 1) hs (each_map (Before h) (λ x. h.start + h.length + 1 ≤ x.start) hs (λ x l. omega arith) p.0) p.1 f.1))
+ascends_from lo (h ∷ hs) e p f = (
+  e.0,
+  (
+    f.0,
+    ascends_from (h.start + h.length + 1) hs (each_map (Before h) (λ x. h.start + h.length + 1 ≤ x.start) hs
+        (λ x l. omega arith) p.0) p.1 f.1,
+  ),
+)
 
 pub ascends_each : (lo : ℕ) (hs : List Hole) → Ascends lo hs → Each (λ h. lo ≤ h.start) hs
 ascends_each lo [] a = tt
-ascends_each lo (h ∷ hs) a =
-    (a.0, each_map (λ x. h.start + h.length + 1 ≤ x.start) (λ x. lo ≤ x.start) hs (λ x l. omega arith) (ascends_each (h.start + h.length + 1) hs a.1.1))
+ascends_each lo (h ∷ hs) a = (
+  a.0,
+  each_map (λ x. h.start + h.length + 1 ≤ x.start) (λ x. lo ≤ x.start) hs (λ x l. omega arith)
+      (ascends_each (h.start + h.length + 1) hs a.1.1),
+)
 
 pub ascends_pairs : (lo : ℕ) (hs : List Hole) → Ascends lo hs → Pairs Before hs
 ascends_pairs lo [] a = tt
 ascends_pairs lo (h ∷ hs) a = (
-  each_map (λ x. h.start + h.length + 1 ≤ x.start) (Before h) hs (λ x l. omega arith) (ascends_each (h.start + h.length + 1) hs a.1.1),
+  each_map (λ x. h.start + h.length + 1 ≤ x.start) (Before h) hs (λ x l. omega arith)
+      (ascends_each (h.start + h.length + 1) hs a.1.1),
   ascends_pairs (h.start + h.length + 1) hs a.1.1,
 )
 
@@ -43,7 +55,8 @@ ascends_filled lo [] a = tt
 ascends_filled lo (h ∷ hs) a = (a.1.0, ascends_filled (h.start + h.length + 1) hs a.1.1)
 
 -- every second granule at most begins a hole
-pub few : (end lo : ℕ) (hs : List Hole) → Each (λ h. h.start + h.length ≤ end) hs → Ascends lo hs → lo ≤ end + 1 → lo + 2 * length hs ≤ end + 1
+pub few : (end lo : ℕ) (hs : List Hole) → Each (λ h. h.start + h.length ≤ end) hs → Ascends lo hs → lo ≤ end + 1
+    → lo + 2 * length hs ≤ end + 1
 few end lo [] e a l = omega arith
 few end lo (h ∷ hs) e a l = let m = few end (h.start + h.length + 1) hs e.1 a.1.1 (omega arith) in omega (arith, m)
 
@@ -55,12 +68,14 @@ touching : (hs hl xs xl : ℕ) → Apart hs hl xs xl → hs ≤ xs + xl → xs �
 touching hs hl xs xl (inl p) l m = inr (omega arith)
 touching hs hl xs xl (inr p) l m = inl (omega arith)
 
-joined_below : (hs hl xs xl ys yl : ℕ) → Touch hs hl xs xl → Apart hs hl ys yl → xs + xl + 1 ≤ ys → Apart (min hs xs) (hl + xl) ys yl
+joined_below : (hs hl xs xl ys yl : ℕ) → Touch hs hl xs xl → Apart hs hl ys yl → xs + xl + 1 ≤ ys
+    → Apart (min hs xs) (hl + xl) ys yl
 joined_below hs hl xs xl ys yl (inl t) (inl q) l = inl (omega arith)
 joined_below hs hl xs xl ys yl (inl t) (inr q) l = absurd (omega arith)
 joined_below hs hl xs xl ys yl (inr t) q l = inl (omega arith)
 
-joined_apart : (a n hs hl xs xl : ℕ) → 0 < n → Touch hs hl xs xl → Apart a n hs hl → Apart a n xs xl → Apart a n (min hs xs) (hl + xl)
+joined_apart : (a n hs hl xs xl : ℕ) → 0 < n → Touch hs hl xs xl → Apart a n hs hl → Apart a n xs xl
+    → Apart a n (min hs xs) (hl + xl)
 joined_apart a n hs hl xs xl g (inl t) (inr q) r = inr (omega arith)
 joined_apart a n hs hl xs xl g (inl t) (inl q) (inl r) = inl (omega arith)
 joined_apart a n hs hl xs xl g (inl t) (inl q) (inr r) = absurd (omega arith)
@@ -69,7 +84,8 @@ joined_apart a n hs hl xs xl g (inr t) (inr q) (inr r) = inr (omega arith)
 joined_apart a n hs hl xs xl g (inr t) (inr q) (inl r) = absurd (omega arith)
 
 -- what two stretches that touch have, the two as one have
-joined_frees : (h x : Hole) (i : ℕ) → Touch h.start h.length x.start x.length → Frees h i ⊎ Frees x i → Frees (joined h x) i
+joined_frees : (h x : Hole) (i : ℕ) → Touch h.start h.length x.start x.length → Frees h i ⊎ Frees x i
+    → Frees (joined h x) i
 joined_frees h x i (inl t) (inl q) = (omega arith, omega arith)
 joined_frees h x i (inl t) (inr q) = (omega arith, omega arith)
 joined_frees h x i (inr t) (inl q) = (omega arith, omega arith)
@@ -80,7 +96,8 @@ pub record Added (lo end : ℕ) (h : Hole) (xs ys : List Hole) : Type 0 where
   pub ascends : Ascends lo ys
   pub inside : Each (λ y. y.start + y.length ≤ end) ys
   pub covers : (i : ℕ) → Frees h i ⊎ Has (λ x. Frees x i) xs → Has (λ y. Frees y i) ys
-  pub apart : (a n : ℕ) → 0 < n → Apart a n h.start h.length → Each (λ x. Apart a n x.start x.length) xs → Each (λ y. Apart a n y.start y.length) ys
+  pub apart : (a n : ℕ) → 0 < n → Apart a n h.start h.length → Each (λ x. Apart a n x.start x.length) xs
+      → Each (λ y. Apart a n y.start y.length) ys
 
 pub added : (lo end : ℕ) (h : Hole) (xs : List Hole) → lo ≤ h.start → 0 < h.length → h.start + h.length ≤ end
     → Ascends lo xs → Each (λ x. x.start + x.length ≤ end) xs → Each (λ x. Apart h.start h.length x.start x.length) xs
@@ -93,7 +110,8 @@ added lo end h [] l f w a e p = record {
 }
 added lo end h (x ∷ xs) l f w a e p =
     at (λ m. added (x.start + x.length + 1) end h xs m f w a.1.1 e.1 p.1)
-    (added lo end (joined h x) xs (omega arith) (omega arith) (omega arith) (ascends_lower _ lo xs (omega arith) a.1.1) e.1)
+    (added lo end (joined h x) xs (omega arith) (omega arith) (omega arith) (ascends_lower _ lo xs (omega arith) a.1.1)
+    e.1)
     (nat_lt (x.start + x.length) h.start) refl (nat_lt (h.start + h.length) x.start) refl
   where
     behind : (i : ℕ) → (Frees h i ⊎ Has (λ y. Frees y i) xs → Has (λ y. Frees y i) (with_hole h xs))
@@ -109,7 +127,8 @@ added lo end h (x ∷ xs) l f w a e p =
     as_one i t (inr (inr q)) = inr q
 
     at : (x.start + x.length + 1 ≤ h.start → Added (x.start + x.length + 1) end h xs (with_hole h xs))
-        → (Each (λ y. Apart (min h.start x.start) (h.length + x.length) y.start y.length) xs → Added lo end (joined h x) xs (with_hole (joined h x) xs))
+        → (Each (λ y. Apart (min h.start x.start) (h.length + x.length) y.start y.length) xs
+        → Added lo end (joined h x) xs (with_hole (joined h x) xs))
         → (s : Bool) → nat_lt (x.start + x.length) h.start ≡ s → (t : Bool) → nat_lt (h.start + h.length) x.start ≡ t
         → Added lo end h (x ∷ xs) (cond s (x ∷ with_hole h xs) (cond t (h ∷ x ∷ xs) (with_hole (joined h x) xs)))
     at rest both true s t u =
@@ -128,10 +147,12 @@ added lo end h (x ∷ xs) l f w a e p =
     }
     at rest both false s false u =
         let t : Touch h.start h.length x.start x.length =
-        touching h.start h.length x.start x.length p.0 (ltb-false (x.start + x.length) h.start s) (ltb-false (h.start + h.length) x.start u) in
+        touching h.start h.length x.start x.length p.0 (ltb-false (x.start + x.length) h.start s)
+        (ltb-false (h.start + h.length) x.start u) in
         let r = both (each_both (λ y. Apart h.start h.length y.start y.length) (λ y. x.start + x.length + 1 ≤ y.start)
         (λ y. Apart (min h.start x.start) (h.length + x.length) y.start y.length) xs
-        (λ y q m. joined_below h.start h.length x.start x.length y.start y.length t q m) p.1 (ascends_each (x.start + x.length + 1) xs a.1.1)) in
+        (λ y q m. joined_below h.start h.length x.start x.length y.start y.length t q m) p.1
+        (ascends_each (x.start + x.length + 1) xs a.1.1)) in
         record {
           ascends = r.ascends;
           inside = r.inside;
@@ -176,7 +197,8 @@ cut_facts lo end need i [] a e l m = absurd (omega arith)
 cut_facts lo end need zero (h ∷ hs) a e l m = at (h.length == need) refl
   where
     behind : Each (λ y. Apart h.start need y.start y.length) hs
-    behind = each_map (λ y. h.start + h.length + 1 ≤ y.start) (λ y. Apart h.start need y.start y.length) hs (λ y o. inl (omega arith))
+    behind = each_map (λ y. h.start + h.length + 1 ≤ y.start) (λ y. Apart h.start need y.start y.length) hs
+        (λ y o. inl (omega arith))
         (ascends_each (h.start + h.length + 1) hs a.1.1)
 
     piece : Hole
@@ -223,21 +245,26 @@ cut_facts lo end need (suc i) (h ∷ hs) a e l m =
     at (cut_facts (h.start + h.length + 1) end need i hs a.1.1 e.1 (omega arith) m)
   where
     later : h.start + h.length + 1 ≤ (hole_of hs i).start
-    later = each_at (λ x. h.start + h.length + 1 ≤ x.start) hs i _ (omega arith) (ascends_each (h.start + h.length + 1) hs a.1.1)
+    later = each_at (λ x. h.start + h.length + 1 ≤ x.start) hs i _ (omega arith)
+        (ascends_each (h.start + h.length + 1) hs a.1.1)
 
     behind : (j : ℕ)
-        → (Has (λ x. Frees x j) hs → (((hole_of hs i).start ≤ j) × (j < (hole_of hs i).start + need)) ⊎ Has (λ y. Frees y j) (cut need i hs))
+        → (Has (λ x. Frees x j) hs → (((hole_of hs i).start ≤ j) × (j < (hole_of hs i).start + need))
+        ⊎ Has (λ y. Frees y j) (cut need i hs))
         → Frees h j ⊎ Has (λ x. Frees x j) hs
-        → (((hole_of hs i).start ≤ j) × (j < (hole_of hs i).start + need)) ⊎ (Frees h j ⊎ Has (λ y. Frees y j) (cut need i hs))
+        → (((hole_of hs i).start ≤ j) × (j < (hole_of hs i).start + need))
+        ⊎ (Frees h j ⊎ Has (λ y. Frees y j) (cut need i hs))
     behind j r (inl c) = inr (inl c)
     behind j r (inr c) = shift (r c)
       where
         shift : (((hole_of hs i).start ≤ j) × (j < (hole_of hs i).start + need)) ⊎ Has (λ y. Frees y j) (cut need i hs)
-            → (((hole_of hs i).start ≤ j) × (j < (hole_of hs i).start + need)) ⊎ (Frees h j ⊎ Has (λ y. Frees y j) (cut need i hs))
+            → (((hole_of hs i).start ≤ j) × (j < (hole_of hs i).start + need))
+            ⊎ (Frees h j ⊎ Has (λ y. Frees y j) (cut need i hs))
         shift (inl q) = inl q
         shift (inr q) = inr (inr q)
 
-    at : IsCut (h.start + h.length + 1) end need i hs (cut need i hs) → IsCut lo end need (suc i) (h ∷ hs) (h ∷ cut need i hs)
+    at : IsCut (h.start + h.length + 1) end need i hs (cut need i hs)
+        → IsCut lo end need (suc i) (h ∷ hs) (h ∷ cut need i hs)
     at rest = record {
       ascends = (a.0, (a.1.0, rest.ascends));
       inside = (e.0, rest.inside);

@@ -1,5 +1,6 @@
 -- A block that is released: in a chunk or in the fallback.
-use Rattle.std.proofs.Common.{◌≡◌, ◌≢◌, ℕ, zero, suc, ◌+◌, ◌-◌, ◌<◌, ◌≤◌, ◌⊎◌, ◌==◌, cond, Bool, true, false, List, [], ◌∷◌, length, ◌∙◌, inl, inr, refl, ap, arith, length-set}
+use Rattle.std.proofs.Common.{◌≡◌, ◌≢◌, ℕ, zero, suc, ◌+◌, ◌-◌, ◌<◌, ◌≤◌, ◌⊎◌, ◌==◌, cond, Bool, true, false, List, []}
+use Rattle.std.proofs.Common.{◌∷◌, length, ◌∙◌, inl, inr, refl, ap, arith, length-set}
 use Rattle.std.specs.Prelude.{Option, Some, None, count_by, slice_set}
 use Rattle.std.proofs.lemmas.Bool.{eqb-true, eq-eqb}
 use Rattle.plan_core.specs.declared.types.Area.{Area}
@@ -9,7 +10,8 @@ use Rattle.place_spec.specs.Layout.{Block, Layout, current_of, chunk_of, idle_ch
 use Rattle.place_spec.specs.Release.{block_at, without_block, with_hole, is_chunk, is_current, left_with, left_chunk}
 use Rattle.place_spec.specs.Sound.{Covers, Frees, OnOneSide, InChunk, is_in_chunk}
 use Rattle.place_spec.proofs.Lists.{Each, Pairs, Has, each_map, each_both}
-use Rattle.place_spec.proofs.Blocks.{each_found, found_first, pairs_found, each_without, each_kept, pairs_without, has_without, Differ, count_without, count_none, found_has}
+use Rattle.place_spec.proofs.Blocks.{each_found, found_first, pairs_found, each_without, each_kept, pairs_without}
+use Rattle.place_spec.proofs.Blocks.{has_without, Differ, count_without, count_none, found_has}
 use Rattle.place_spec.proofs.Fronts.{front_from, in_one}
 use Rattle.place_spec.proofs.HoleLists.{Added, added}
 use Rattle.place_spec.proofs.SoundParts.{BlocksApart, apart_sym, Stands, Keeps, Parts, at_item, in_true, in_false}
@@ -17,8 +19,11 @@ use Rattle.place_spec.proofs.SoundParts.{BlocksApart, apart_sym, Stands, Keeps, 
 -- blocks that are apart begin at different granules
 pub differ : (xs : List Block) → Each (λ x. 0 < x.granules) xs → Pairs BlocksApart xs → Pairs Differ xs
 differ [] f p = tt
-differ (x ∷ xs) f p =
-    (each_both (BlocksApart x) (λ y. 0 < y.granules) (Differ x) xs (λ y a g e. by_side y a g e) p.0 f.1, differ xs f.1 p.1)
+differ (x ∷ xs) f p = (
+  each_both (BlocksApart x) (λ y. 0 < y.granules) (Differ x) xs (λ y a g e. by_side y a g e) p.0 f.1,
+  differ xs f.1
+      p.1,
+)
   where
     by_side : (y : Block) → BlocksApart x y → 0 < y.granules → x.first ≡ y.first → ⊥
     by_side y (inl l) g e = let h = f.0 in omega (arith, l, e, h)
@@ -27,7 +32,8 @@ differ (x ∷ xs) f p =
 abbrev pub gone : Layout → ℕ → List Block
 gone layout g = without_block g layout.blocks
 
-module _ (area : Area) (layout : Layout) (p : Parts area layout) (g : ℕ) (b : Block) (found : block_at layout g ≡ Some b) where
+module _ (area : Area) (layout : Layout) (p : Parts area layout) (g : ℕ) (b : Block)
+    (found : block_at layout g ≡ Some b) where
   pub stands : Stands area layout b
   stands = each_found (Stands area layout) (λ x. x.first == g) b layout.blocks found p.blocks
 
@@ -35,18 +41,23 @@ module _ (area : Area) (layout : Layout) (p : Parts area layout) (g : ℕ) (b : 
   first_is = found_first g b layout.blocks found
 
   pub differing : Pairs Differ layout.blocks
-  differing = differ layout.blocks (each_map (Stands area layout) (λ x. 0 < x.granules) layout.blocks (λ x h. h.filled) p.blocks) p.apart
+  differing = differ layout.blocks (each_map (Stands area layout) (λ x. 0 < x.granules) layout.blocks (λ x h. h.filled)
+      p.blocks) p.apart
 
   -- one block less is counted where the released one was
-  pub counted_less : (k : ℕ) → InChunk area k b → count_by (is_in_chunk area k) (gone layout g) + 1 ≡ count_by (is_in_chunk area k) layout.blocks
+  pub counted_less : (k : ℕ) → InChunk area k b → count_by (is_in_chunk area k) (gone layout g) + 1
+      ≡ count_by (is_in_chunk area k) layout.blocks
   counted_less k i =
       let w = count_without (is_in_chunk area k) g b layout.blocks found differing in
-      let c = ap (λ v. cond v 1 0 + count_by (is_in_chunk area k) (gone layout g)) (in_true area k b i) in omega (arith, w, c)
+      let c = ap (λ v. cond v 1 0 + count_by (is_in_chunk area k) (gone layout g)) (in_true area k b i) in
+      omega (arith, w, c)
 
-  pub counted_same : (k : ℕ) → (InChunk area k b → ⊥) → count_by (is_in_chunk area k) (gone layout g) ≡ count_by (is_in_chunk area k) layout.blocks
+  pub counted_same : (k : ℕ) → (InChunk area k b → ⊥) → count_by (is_in_chunk area k) (gone layout g)
+      ≡ count_by (is_in_chunk area k) layout.blocks
   counted_same k n =
       let w = count_without (is_in_chunk area k) g b layout.blocks found differing in
-      let c = ap (λ v. cond v 1 0 + count_by (is_in_chunk area k) (gone layout g)) (in_false area k b n) in omega (arith, w, c)
+      let c = ap (λ v. cond v 1 0 + count_by (is_in_chunk area k) (gone layout g)) (in_false area k b n) in
+      omega (arith, w, c)
 
   -- the others are apart from it
   others_apart : Each (λ x. x.first ≢ g → BlocksApart b x) layout.blocks
@@ -56,12 +67,14 @@ module _ (area : Area) (layout : Layout) (p : Parts area layout) (g : ℕ) (b : 
   covers_less : (i : ℕ) → Has (λ x. Covers x i) layout.blocks → Covers b i ⊎ Has (λ x. Covers x i) (gone layout g)
   covers_less i h = at (has_without (λ x. Covers x i) g layout.blocks h)
     where
-      at : Has (λ x. Covers x i × (x.first ≡ g)) layout.blocks ⊎ Has (λ x. Covers x i) (gone layout g) → Covers b i ⊎ Has (λ x. Covers x i) (gone layout g)
+      at : Has (λ x. Covers x i × (x.first ≡ g)) layout.blocks ⊎ Has (λ x. Covers x i) (gone layout g) → Covers b i
+          ⊎ Has (λ x. Covers x i) (gone layout g)
       at (inl q) = inl (found_has (λ x. Covers x i) g b layout.blocks found differing q)
       at (inr q) = inr q
 
 -- a chunk is its owner's current one
-current_true : (layout : Layout) (k : ℕ) (o : Option ℕ) → is_current layout k o ≡ true → (h : ℕ) × (current_of layout h ≡ Some k)
+current_true : (layout : Layout) (k : ℕ) (o : Option ℕ) → is_current layout k o ≡ true → (h : ℕ)
+    × (current_of layout h ≡ Some k)
 current_true layout k None e = absurd (cc)
 current_true layout k (Some h) e = (h, at (current_of layout h) e)
   where
@@ -69,7 +82,8 @@ current_true layout k (Some h) e = (h, at (current_of layout h) e)
     at None e = absurd (cc)
     at (Some j) e = ap (λ i. Some i) (eqb-true j k e)
 
-true_current : (layout : Layout) (k h : ℕ) (o : Option ℕ) → o ≡ Some h → current_of layout h ≡ Some k → is_current layout k o ≡ true
+true_current : (layout : Layout) (k h : ℕ) (o : Option ℕ) → o ≡ Some h → current_of layout h ≡ Some k
+    → is_current layout k o ≡ true
 true_current layout k h o e c =
     ap (is_current layout k) e ∙ (ap (is_chunk k) c ∙ eq-eqb k k refl)
 
@@ -77,7 +91,8 @@ left_live : (n : ℕ) (cur : Bool) (c : Chunk) → (left_with n cur c).live ≡ 
 left_live zero cur c = refl
 left_live (suc n) cur c = refl
 
-module _ (area : Area) (layout : Layout) (p : Parts area layout) (g : ℕ) (b : Block) (found : block_at layout g ≡ Some b)
+module _ (area : Area) (layout : Layout) (p : Parts area layout) (g : ℕ) (b : Block)
+    (found : block_at layout g ≡ Some b)
     (k : ℕ) (within : k < area.chunks) (stood : InChunk area k b) where
   abbrev c : Chunk
   c = chunk_of layout k
@@ -100,10 +115,12 @@ module _ (area : Area) (layout : Layout) (p : Parts area layout) (g : ℕ) (b : 
   -- where no block is left in the chunk
   alone : (n : ℕ) → c.live - 1 ≡ n → Each (λ x. n ≡ 0 → is_in_chunk area k x ≡ false) (gone layout g)
   alone zero e =
-      each_map (λ x. is_in_chunk area k x ≡ false) (λ x. zero ≡ 0 → is_in_chunk area k x ≡ false) (gone layout g) (λ x q z. q)
+      each_map (λ x. is_in_chunk area k x ≡ false) (λ x. zero ≡ 0 → is_in_chunk area k x ≡ false) (gone layout g)
+      (λ x q z. q)
       (count_none (is_in_chunk area k) (gone layout g) (omega (arith, e, less)))
   alone (suc n) e =
-      each_map (Stands area layout) (λ x. suc n ≡ 0 → is_in_chunk area k x ≡ false) (gone layout g) (λ x q z. absurd (omega (arith, z)))
+      each_map (Stands area layout) (λ x. suc n ≡ 0 → is_in_chunk area k x ≡ false) (gone layout g)
+      (λ x q z. absurd (omega (arith, z)))
       (each_kept (Stands area layout) g layout.blocks p.blocks)
 
   below_left : (x : Block) → Stands area layout x → (n : ℕ) → (n ≡ 0 → is_in_chunk area k x ≡ false) → InChunk area k x
@@ -177,23 +194,27 @@ module _ (area : Area) (layout : Layout) (p : Parts area layout) (g : ℕ) (b : 
   leave_parts = record {
     groups = p.groups;
     chunks = length-set layout.chunks k v ∙ p.chunks;
-    blocks = each_both (Stands area layout) (λ x. c.live - 1 ≡ 0 → is_in_chunk area k x ≡ false) (Stands area new) (gone layout g) left_stands
+    blocks = each_both (Stands area layout) (λ x. c.live - 1 ≡ 0 → is_in_chunk area k x ≡ false) (Stands area new)
+        (gone layout g) left_stands
         (each_kept (Stands area layout) g layout.blocks p.blocks) (alone (c.live - 1) refl);
     apart = pairs_without BlocksApart g layout.blocks p.apart;
     covered = λ i l. still i l (p.covered i l);
     ascends = p.ascends;
     inside = p.inside;
-    keeps = at_item (λ j d. j < area.chunks → Keeps area new j d) layout.chunks k v idle_chunk at_k keeps_here keeps_there;
+    keeps = at_item (λ j d. j < area.chunks → Keeps area new j d) layout.chunks k v idle_chunk at_k keeps_here
+        keeps_there;
     currents = λ h j e. let old = p.currents h j e in (
       old.0,
-      at_item (λ i d. current_of layout h ≡ Some i → (chunk_of layout i).owner ≡ Some h → d.owner ≡ Some h) layout.chunks k v idle_chunk at_k
+      at_item (λ i d. current_of layout h ≡ Some i → (chunk_of layout i).owner ≡ Some h → d.owner ≡ Some h)
+          layout.chunks k v idle_chunk at_k
           (λ q o. owner_left (c.live - 1) cur h (true_current layout k h c.owner o q) o) (λ i n q o. o) j e old.1,
     );
     owners = λ j h. at_item (λ i d. d.owner ≡ Some h → h < 16) layout.chunks k v idle_chunk at_k
         (λ e. p.owners k h (owner_was (c.live - 1) cur h e)) (λ i n e. p.owners i h e) j;
   }
     where
-      other : (i : ℕ) → i < area.fallback → Covers b i ⊎ Has (λ x. Covers x i) (gone layout g) → Has (λ x. Covers x i) (gone layout g)
+      other : (i : ℕ) → i < area.fallback → Covers b i ⊎ Has (λ x. Covers x i) (gone layout g)
+          → Has (λ x. Covers x i) (gone layout g)
       other i l (inl q) = absurd (let f = front_from area k in omega (arith, l, f, q.0, stood.0))
       other i l (inr q) = q
 
@@ -202,7 +223,8 @@ module _ (area : Area) (layout : Layout) (p : Parts area layout) (g : ℕ) (b : 
       still i l (inl q) = inl (other i l (covers_less area layout p g b found i q))
       still i l (inr q) = inr q
 
-module _ (area : Area) (layout : Layout) (p : Parts area layout) (g : ℕ) (b : Block) (found : block_at layout g ≡ Some b)
+module _ (area : Area) (layout : Layout) (p : Parts area layout) (g : ℕ) (b : Block)
+    (found : block_at layout g ≡ Some b)
     (low : b.first < area.fallback) where
   abbrev hole : Hole
   hole = record { start = b.first; length = b.granules }

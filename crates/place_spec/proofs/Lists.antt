@@ -1,5 +1,6 @@
 -- What holds of each item, of each pair and of some item of a list, item by item.
-use Rattle.std.proofs.Common.{◌≡◌, ℕ, zero, suc, ◌<◌, ◌⊎◌, List, [], ◌∷◌, length, get_or, sym, subst, inl, inr, refl, arith}
+use Rattle.std.proofs.Common.{◌≡◌, ℕ, zero, suc, ◌<◌, ◌⊎◌, List, [], ◌∷◌, length, get_or, sym, subst, inl, inr, refl}
+use Rattle.std.proofs.Common.{arith}
 use Rattle.std.specs.Prelude.{All, AllPairs, Any}
 
 module _ {X : Type 0} where
@@ -34,8 +35,11 @@ module _ {X : Type 0} where
 
   pub pairs : (R : X → X → Type 0) (xs : List X) → AllPairs R xs → Pairs R xs
   pairs R [] h = tt
-  pairs R (x ∷ xs) h =
-      (each (R x) xs (λ k d l. h 0 (suc k) d (omega arith) (omega arith)), pairs R xs (λ i j d l m. h (suc i) (suc j) d (omega arith) (omega arith)))
+  pairs R (x ∷ xs) h = (
+    each (R x) xs (λ k d l. h 0 (suc k) d (omega arith) (omega arith)),
+    pairs R xs
+        (λ i j d l m. h (suc i) (suc j) d (omega arith) (omega arith)),
+  )
 
   pub all_pairs : (R : X → X → Type 0) (xs : List X) → Pairs R xs → AllPairs R xs
   all_pairs R [] e i j d l m = absurd (omega arith)

@@ -1,5 +1,6 @@
 -- The parts of a sound layout, block by block and chunk by chunk.
-use Rattle.std.proofs.Common.{◌≡◌, ◌≢◌, ℕ, ◌+◌, ◌<◌, ◌≤◌, ◌⊎◌, ◌↔◌, true, false, List, [], ◌∷◌, length, get_or, set, sym, subst, inl, inr, arith}
+use Rattle.std.proofs.Common.{◌≡◌, ◌≢◌, ℕ, ◌+◌, ◌<◌, ◌≤◌, ◌⊎◌, ◌↔◌, true, false, List, [], ◌∷◌, length, get_or, set}
+use Rattle.std.proofs.Common.{sym, subst, inl, inr, arith}
 use Rattle.std.specs.Prelude.{Some, None, count_by, Any}
 use Rattle.std.proofs.lemmas.List.{get_or-set_same, get_or-set_other}
 use Rattle.std.proofs.lemmas.Bool.{cases_eq, cases_Bool, and_from, and_parts, le-leb, lt-ltb, leb-true, ltb-true}
@@ -24,7 +25,8 @@ pub record Stands (area : Area) (layout : Layout) (b : Block) : Type 0 where
   pub filled : 0 < b.granules
   pub inside : b.first + b.granules ≤ granules area
   pub crossing : (k : ℕ) → k ≤ area.chunks → OnOneSide (chunk_front area k) b
-  pub below : (k : ℕ) → k < area.chunks → InChunk area k b → b.first + b.granules ≤ chunk_front area k + (chunk_of layout k).bump
+  pub below : (k : ℕ) → k < area.chunks → InChunk area k b → b.first + b.granules ≤ chunk_front area k +
+      (chunk_of layout k).bump
   pub owned : (k : ℕ) → k < area.chunks → InChunk area k b → b.group ≡ (chunk_of layout k).owner
   pub group : (g : ℕ) → b.group ≡ Some g → g < 16
   pub holes : Each (λ h. Apart b.first b.granules h.start h.length) layout.holes
@@ -68,7 +70,8 @@ parts area layout s = record {
   });
   apart = pairs BlocksApart layout.blocks s.blocks_apart;
   covered = λ i l. some i (s.covered i l);
-  ascends = ascends_from 0 layout.holes (anywhere layout.holes) (pairs Before layout.holes s.holes_ascend) (each _ layout.holes s.holes_filled);
+  ascends = ascends_from 0 layout.holes (anywhere layout.holes) (pairs Before layout.holes s.holes_ascend)
+      (each _ layout.holes s.holes_filled);
   inside = each _ layout.holes s.holes_inside;
   keeps = λ k l. record {
     counted = s.counted k l;
@@ -81,7 +84,8 @@ parts area layout s = record {
   owners = s.owners;
 }
   where
-    some : (i : ℕ) → Any (λ b. Covers b i) layout.blocks ⊎ Any (λ h. Frees h i) layout.holes → Has (λ b. Covers b i) layout.blocks ⊎ Has (λ h. Frees h i) layout.holes
+    some : (i : ℕ) → Any (λ b. Covers b i) layout.blocks ⊎ Any (λ h. Frees h i) layout.holes
+        → Has (λ b. Covers b i) layout.blocks ⊎ Has (λ h. Frees h i) layout.holes
     some i (inl a) = inl (has (λ b. Covers b i) layout.blocks a)
     some i (inr a) = inr (has (λ h. Frees h i) layout.holes a)
 
@@ -124,11 +128,13 @@ pub at_item : {X : Type 0} → (P : ℕ → X → Type 0) (xs : List X) (k : ℕ
 at_item P xs k v d l here there j = at (cases_eq j k)
   where
     at : (j ≡ k) ⊎ (j ≡ k → ⊥) → P j (get_or (set xs k v) j d)
-    at (inl e) = subst (λ i. P i (get_or (set xs k v) i d)) (sym e) (subst (P k) (sym (get_or-set_same xs k v d l)) here)
+    at (inl e) = subst (λ i. P i (get_or (set xs k v) i d)) (sym e)
+        (subst (P k) (sym (get_or-set_same xs k v d l)) here)
     at (inr n) = subst (P j) (sym (get_or-set_other xs k j v d n)) (there j n)
 
 pub in_true : (area : Area) (k : ℕ) (b : Block) → InChunk area k b → is_in_chunk area k b ≡ true
-in_true area k b p = and_from _ _ (le-leb (chunk_front area k) b.first p.0) (lt-ltb b.first (chunk_front area (k + 1)) p.1)
+in_true area k b p = and_from _ _ (le-leb (chunk_front area k) b.first p.0)
+    (lt-ltb b.first (chunk_front area (k + 1)) p.1)
 
 pub from_true : (area : Area) (k : ℕ) (b : Block) → is_in_chunk area k b ≡ true → InChunk area k b
 from_true area k b e =

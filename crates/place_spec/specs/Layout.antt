@@ -1,6 +1,7 @@
 -- The state of a heap's area: what stands where. The area has the granules of the fallback first, and
 -- then its chunks, each of 2 ^ log_chunk granules. Granules are counted from the area's front.
-use Rattle.std.specs.Prelude.{ℕ, ◌+◌, ◌*◌, ◌/◌, ◌^◌, ◌==◌, List, [], ◌∷◌, replicate, max, Option, None, if◌then◌else◌, slice_index_or}
+use Rattle.std.specs.Prelude.{ℕ, ◌+◌, ◌*◌, ◌/◌, ◌^◌, ◌==◌, List, [], ◌∷◌, replicate, max, Option, None, if◌then◌else◌}
+use Rattle.std.specs.Prelude.{slice_index_or}
 use Rattle.plan_core.specs.declared.types.Area.{Area}
 use Rattle.place_spec.specs.declared.parts.Hole.{Hole}
 use Rattle.place_spec.specs.declared.parts.Chunk.{Chunk}

@@ -1,7 +1,8 @@
 -- Placing a block. The four rules are: with a group, and a need that a chunk can hold, first the group's
 -- current chunk, then the lowest chunk without owner; then, as also without these, the first hole
 -- that is long enough; and else the block is refused.
-use Rattle.std.specs.Prelude.{◌≡◌, ◌≢◌, ◌<◌, ◌≤◌, All, ℕ, ◌+◌, ◌-◌, ◌==◌, nat_le, nat_lt, List, [], ◌∷◌, Option, Some, None, is_none, option_map, option_and_then, position, remove, slice_set, if◌then◌else◌}
+use Rattle.std.specs.Prelude.{◌≡◌, ◌≢◌, ◌<◌, ◌≤◌, All, ℕ, ◌+◌, ◌-◌, ◌==◌, nat_le, nat_lt, List, [], ◌∷◌, Option, Some}
+use Rattle.std.specs.Prelude.{None, is_none, option_map, option_and_then, position, remove, slice_set, if◌then◌else◌}
 use Rattle.std.specs.Option.{option_or}
 use Rattle.plan_core.specs.declared.types.Area.{Area}
 use Rattle.plan_core.specs.declared.types.Row.{Row}
@@ -49,7 +50,8 @@ cut_holes need i holes =
 -- a layout whose spot was taken, but for the block that now stands there
 unfoldable pub taken : (need : ℕ) → Spot → Layout → Layout
 taken need (Current k) layout = record layout {
-  chunks = slice_set layout.chunks k (record (chunk_of layout k) { bump = (chunk_of layout k).bump + need; live = (chunk_of layout k).live + 1 });
+  chunks = slice_set layout.chunks k (record (chunk_of layout k)
+      { bump = (chunk_of layout k).bump + need; live = (chunk_of layout k).live + 1 });
 }
 taken need (Fresh group k) layout = record layout {
   currents = slice_set layout.currents group (Some k);
@@ -73,7 +75,8 @@ layout_with b layout = record layout { blocks = with_block b layout.blocks }
 abbrev pub placed_at : Area → Layout → (need : ℕ) → (group : Option ℕ) → Spot → Placed
 placed_at area layout need group spot = record {
   granule = granule_of area layout spot;
-  after = layout_with (record { first = granule_of area layout spot; granules = need; group = group }) (taken need spot layout);
+  after = layout_with (record { first = granule_of area layout spot; granules = need; group = group })
+      (taken need spot layout);
 }
 
 -- a block of a group or none

@@ -20,7 +20,8 @@ IsAllowed (Releases granule) = ⊤
 
 -- the layout after a request; a refused one changes nothing
 abbrev pub layout_after : List Row → Area → Layout → Request → Layout
-layout_after rows area layout (Places need bits) = option_map_or (λ p. p.after) (placed rows area layout need bits) layout
+layout_after rows area layout (Places need bits) = option_map_or (λ p. p.after) (placed rows area layout need bits)
+    layout
 layout_after rows area layout (Releases granule) = released area layout granule
 
 -- the layout after requests, made one after the other

@@ -1,5 +1,6 @@
 -- Releasing a block, and moving one.
-use Rattle.std.specs.Prelude.{ℕ, zero, suc, ◌+◌, ◌-◌, ◌/◌, ◌==◌, nat_lt, min, List, [], ◌∷◌, Bool, false, not, Option, Some, None, option_map, find, filter, slice_set, if◌then◌else◌}
+use Rattle.std.specs.Prelude.{ℕ, zero, suc, ◌+◌, ◌-◌, ◌/◌, ◌==◌, nat_lt, min, List, [], ◌∷◌, Bool, false, not, Option}
+use Rattle.std.specs.Prelude.{Some, None, option_map, find, filter, slice_set, if◌then◌else◌}
 use Rattle.plan_core.specs.declared.types.Area.{Area}
 use Rattle.plan_core.specs.declared.types.Row.{Row}
 use Rattle.place_spec.specs.declared.parts.Hole.{Hole}

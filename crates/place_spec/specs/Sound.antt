@@ -1,5 +1,6 @@
 -- What holds of a layout at all times.
-use Rattle.std.specs.Prelude.{◌≡◌, ◌≢◌, ℕ, ◌+◌, ◌<◌, ◌≤◌, ◌↔◌, ◌⊎◌, nat_le, nat_lt, Bool, ◌&&◌, Some, None, All, AllPairs, Any, count_by, length}
+use Rattle.std.specs.Prelude.{◌≡◌, ◌≢◌, ℕ, ◌+◌, ◌<◌, ◌≤◌, ◌↔◌, ◌⊎◌, nat_le, nat_lt, Bool, ◌&&◌, Some, None, All}
+use Rattle.std.specs.Prelude.{AllPairs, Any, count_by, length}
 use Rattle.plan_core.specs.declared.types.Area.{Area}
 use Rattle.plan_core.specs.Plan.{granules}
 use Rattle.place_spec.specs.declared.parts.Hole.{Hole}
@@ -49,7 +50,8 @@ pub record Sound (area : Area) (layout : Layout) : Type 0 where
   -- the live blocks of a chunk end at or below its bump, have its owner as group and number its live count
   pub below_bump : All (λ b. (k : ℕ) → k < area.chunks → InChunk area k b
       → b.first + b.granules ≤ chunk_front area k + (chunk_of layout k).bump) layout.blocks
-  pub owned : All (λ b. (k : ℕ) → k < area.chunks → InChunk area k b → b.group ≡ (chunk_of layout k).owner) layout.blocks
+  pub owned : All (λ b. (k : ℕ) → k < area.chunks → InChunk area k b → b.group ≡ (chunk_of layout k).owner)
+      layout.blocks
   pub counted : (k : ℕ) → k < area.chunks → count_by (is_in_chunk area k) layout.blocks ≡ (chunk_of layout k).live
   -- a bump is at most the chunk's length, and is 0 exactly where the live count is 0
   pub bumps : (k : ℕ) → k < area.chunks → (chunk_of layout k).bump ≤ chunk_size area
@@ -59,7 +61,8 @@ pub record Sound (area : Area) (layout : Layout) : Type 0 where
   pub in_use : (k : ℕ) → k < area.chunks → (chunk_of layout k).owner ≢ None
       → ((group : ℕ) → current_of layout group ≢ Some k) → 0 < (chunk_of layout k).live
   -- a group's current chunk has that group as owner
-  pub currents : (group k : ℕ) → current_of layout group ≡ Some k → (k < area.chunks) × ((chunk_of layout k).owner ≡ Some group)
+  pub currents : (group k : ℕ) → current_of layout group ≡ Some k → (k < area.chunks)
+      × ((chunk_of layout k).owner ≡ Some group)
   -- an owner, and the group of a live block, is below 16
   pub owners : (k group : ℕ) → (chunk_of layout k).owner ≡ Some group → group < 16
   pub block_groups : All (λ b. (group : ℕ) → b.group ≡ Some group → group < 16) layout.blocks

@@ -1,4 +1,5 @@
-// Where a grouping allocator puts blocks: in specs/ the rules and what they keep, and, as contracts of empty functions, laws.
+// Where a grouping allocator puts blocks: in specs/ the rules and what they keep, and, as contracts of empty functions,
+// laws.
 #![tactic(auto)]
 
 mod laws;

@@ -1,5 +1,6 @@
 -- The reader's loop: what holds after each line, at a refusal and at the end.
-use Rattle.std.proofs.Common.{◌≡◌, ◌<◌, ◌≤◌, ◌+◌, ℕ, Bool, true, false, List, [], ◌∷◌, ◌++◌, length, Option, Some, None, refl, subst, sym, arith, append_assoc, nat_le}
+use Rattle.std.proofs.Common.{◌≡◌, ◌<◌, ◌≤◌, ◌+◌, ℕ, Bool, true, false, List, [], ◌∷◌, ◌++◌, length, Option, Some, None}
+use Rattle.std.proofs.Common.{refl, subst, sym, arith, append_assoc, nat_le}
 use Rattle.std.specs.Prelude.{count_by}
 use Rattle.std.proofs.lemmas.Grind.{flat_map-append}
 use Rattle.std.proofs.lemmas.List.{append-nil, length_push}
@@ -18,7 +19,8 @@ use Rattle.plan_core.specs.Reading.{line_at}
 use Rattle.plan_core.specs.Steps.{blank_plan, moves, is_full, added, WentOn, StoppedAt, Stopped}
 use Rattle.plan_core.proofs.LineLaws.{ReadsLines}
 use Rattle.plan_core.proofs.Counts.{count-append}
-use Rattle.plan_core.proofs.Stages.{so_far, Tidy, Adds, adds_at, run, run-append, no_plan_goes_on, whole_ends, ended_is_last, begins, begun_fits, back_fits, counts, few_lines}
+use Rattle.plan_core.proofs.Stages.{so_far, Tidy, Adds, adds_at, run, run-append, no_plan_goes_on, whole_ends}
+use Rattle.plan_core.proofs.Stages.{ended_is_last, begins, begun_fits, back_fits, counts, few_lines}
 
 -- the lines so far are taken into the plan, and `rest` is still to be read, from line `number` on
 pub record Begun (text : List ℕ) (p : Plan) (stage : Stage) (rest : List ℕ) (number : ℕ) : Type 0 where

@@ -1,5 +1,6 @@
 -- The lines that have come at a stage, and which may come next.
-use Rattle.std.proofs.Common.{◌≡◌, ◌≤◌, ◌+◌, List, [], ◌∷◌, ◌++◌, length, map, Option, Some, None, suc, refl, sym, subst, arith, append_assoc}
+use Rattle.std.proofs.Common.{◌≡◌, ◌≤◌, ◌+◌, List, [], ◌∷◌, ◌++◌, length, map, Option, Some, None, suc, refl, sym}
+use Rattle.std.proofs.Common.{subst, arith, append_assoc}
 use Rattle.std.specs.Prelude.{count_by, MatchOption, All}
 use Rattle.std.proofs.lemmas.List.{append-nil, map-append, length-append, length-map}
 use Rattle.text_fields.specs.Reading.{◌>>=◌}

@@ -1,5 +1,6 @@
 -- A text is of one plan, and has one answer.
-use Rattle.std.proofs.Common.{◌≡◌, ℕ, List, [], ◌∷◌, ◌++◌, length, map, refl, ap, subst, sym, ◌∙◌, arith, append_assoc, ◌⊎◌, inl, inr}
+use Rattle.std.proofs.Common.{◌≡◌, ℕ, List, [], ◌∷◌, ◌++◌, length, map, refl, ap, subst, sym, ◌∙◌, arith, append_assoc}
+use Rattle.std.proofs.Common.{◌⊎◌, inl, inr}
 use Rattle.std.specs.Prelude.{MatchResult, IfOk, IfErr, Result, Ok, Err}
 use Rattle.std.proofs.lemmas.List.{append-nil, length_push}
 use Rattle.std.proofs.lemmas.Grind.{flat_map-append}
@@ -14,7 +15,8 @@ use Rattle.plan_core.specs.declared.refusals.PlanRefusal.TheVariants.{Line, TooM
 use Rattle.plan_core.specs.Plan.{line_text, text_of, lines_of, plan_text, IsPlan}
 use Rattle.plan_core.specs.Grammar.{is_site, is_row, Begins, Within, FirstBad, FirstOver, Refuses}
 use Rattle.plan_core.proofs.LineLaws.{ReadsLines, one_line, line_some}
-use Rattle.plan_core.proofs.Counts.{count-append, sites_in_sites, rows_in_sites, sites_in_rows, rows_in_rows, front_within}
+use Rattle.plan_core.proofs.Counts.{count-append, sites_in_sites, rows_in_sites, sites_in_rows, rows_in_rows}
+use Rattle.plan_core.proofs.Counts.{front_within}
 use Rattle.plan_core.proofs.Stages.{LinesFit, begun_fits, plan_fits}
 
 -- b goes on after a, and so does the text before y

@@ -1,5 +1,6 @@
 -- A plan that is made of contexts whose addresses are near sites of a file fits the file.
-use Rattle.std.proofs.Common.{◌≡◌, ◌≢◌, ◌∙◌, ℕ, ◌/◌, ◌^◌, ◌<◌, ◌≤◌, inl, inr, true, List, length, get_or, bit_and, refl, sym, subst, arith, Option, Some, None, IsBitSet, slice_get}
+use Rattle.std.proofs.Common.{◌≡◌, ◌≢◌, ◌∙◌, ℕ, ◌/◌, ◌^◌, ◌<◌, ◌≤◌, inl, inr, true, List, length, get_or, bit_and, refl}
+use Rattle.std.proofs.Common.{sym, subst, arith, Option, Some, None, IsBitSet, slice_get}
 use Rattle.std.specs.Prelude.{All, AllPairs, Any, IsSome}
 use Rattle.std.proofs.Math.Nat.{div-eq_of_lt}
 use Rattle.std.proofs.Math.Pow.{pow_mono}

@@ -1,14 +1,17 @@
 -- From a near site all stubs are within reach, unless it is a pair.
-use Rattle.std.proofs.Common.{◌≡◌, ◌∙◌, ℕ, zero, suc, ◌+◌, ◌*◌, ◌/◌, ◌<◌, ◌==◌, ◌⊎◌, ◌&&◌, ◌||◌, Bool, true, false, List, [], ◌∷◌, length, get_or, refl, sym, ap, inl, inr, arith, Option, Some, None}
+use Rattle.std.proofs.Common.{◌≡◌, ◌∙◌, ℕ, zero, suc, ◌+◌, ◌*◌, ◌/◌, ◌<◌, ◌==◌, ◌⊎◌, ◌&&◌, ◌||◌, Bool, true, false}
+use Rattle.std.proofs.Common.{List, [], ◌∷◌, length, get_or, refl, sym, ap, inl, inr, arith, Option, Some, None}
 use Rattle.std.specs.List.{list_all}
 use Rattle.std.proofs.lemmas.Bool.{agree_below_at, and_parts, eqb-true}
 use Rattle.rv_isa.specs.declared.Instr.{Instr}
-use Rattle.rv_isa.specs.declared.Instr.TheVariants.{Lui, Auipc, Jal, Jalr, Branch, Load, Store, OpImm, Reg, Fence, Ecall, Ebreak}
+use Rattle.rv_isa.specs.declared.Instr.TheVariants.{Lui, Auipc, Jal, Jalr, Branch, Load, Store, OpImm, Reg, Fence}
+use Rattle.rv_isa.specs.declared.Instr.TheVariants.{Ecall, Ebreak}
 use Rattle.rv_isa.specs.Addresses.{plus}
 use Rattle.elf_spec.specs.Relocations.{has_reloc, relocs_of}
 use Rattle.site_spec.specs.declared.Site.{Site}
 use Rattle.site_spec.specs.Places.{text_at, stub_at, reaches}
-use Rattle.site_spec.specs.Sites.{stub_numbers, call_at, code_at, is_call_of_code, kept_site, reaches_all_stubs, site_at}
+use Rattle.site_spec.specs.Sites.{stub_numbers, call_at, code_at, is_call_of_code, kept_site, reaches_all_stubs}
+use Rattle.site_spec.specs.Sites.{site_at}
 
 -- a pair, or a jump that is near where it reaches all stubs
 abbrev IsKind : List ℕ → ℕ → Site → Type 0

@@ -1,5 +1,6 @@
 -- The reader's loop: what holds after each line, at a refusal and at the end.
-use Rattle.std.proofs.Common.{◌≡◌, ◌<◌, ◌≤◌, ◌+◌, ℕ, List, [], ◌∷◌, ◌++◌, length, Option, Some, None, refl, ap, subst, sym, ◌∙◌, arith, append_assoc, length-append}
+use Rattle.std.proofs.Common.{◌≡◌, ◌<◌, ◌≤◌, ◌+◌, ℕ, List, [], ◌∷◌, ◌++◌, length, Option, Some, None, refl, ap, subst}
+use Rattle.std.proofs.Common.{sym, ◌∙◌, arith, append_assoc, length-append}
 use Rattle.std.proofs.lemmas.List.{append-nil, length_push}
 use Rattle.std.proofs.lemmas.List.Elements.{All-nil}
 use Rattle.std.proofs.lemmas.Option.{MatchOption-at_some, some_pair_parts}
@@ -16,7 +17,8 @@ use Rattle.profile_text.specs.Reading.{line_at}
 use Rattle.profile_text.specs.Steps.{blank_profile, admits, added, WentOn, Blocked, Stopped}
 use Rattle.profile_text.proofs.Laws.{TextLaws}
 use Rattle.profile_text.proofs.LineLaws.{line_takes, line_again, line_some}
-use Rattle.profile_text.proofs.Stages.{so_far, Tidy, Adds, adds_at, run, run-append, no_profile_goes_on, whole_ends, ended_is_last, begins, begun_fits, back_fits, added_fits, text_push}
+use Rattle.profile_text.proofs.Stages.{so_far, Tidy, Adds, adds_at, run, run-append, no_profile_goes_on, whole_ends}
+use Rattle.profile_text.proofs.Stages.{ended_is_last, begins, begun_fits, back_fits, added_fits, text_push}
 
 -- the lines so far are taken into the profile, and `rest` is still to be read, from line `number` on
 pub record Begun (text : List ℕ) (p : Profile) (stage : Stage) (rest : List ℕ) (number : ℕ) : Type 0 where

@@ -1,5 +1,7 @@
 -- The lines that have come at a stage, and which may come next.
-use Rattle.std.proofs.Common.{◌≡◌, ◌==◌, ◌&&◌, ◌<◌, ◌≤◌, ◌+◌, ◌-◌, ◌^◌, ℕ, Bool, true, false, cond, nat_lt, nat_le, List, [], ◌∷◌, ◌++◌, length, map, take, get_or, Option, Some, None, inl, inr, refl, ap, sym, ◌∙◌, subst, arith, append_assoc, length-append, length-take-le}
+use Rattle.std.proofs.Common.{◌≡◌, ◌==◌, ◌&&◌, ◌<◌, ◌≤◌, ◌+◌, ◌-◌, ◌^◌, ℕ, Bool, true, false, cond, nat_lt, nat_le}
+use Rattle.std.proofs.Common.{List, [], ◌∷◌, ◌++◌, length, map, take, get_or, Option, Some, None, inl, inr, refl, ap}
+use Rattle.std.proofs.Common.{sym, ◌∙◌, subst, arith, append_assoc, length-append, length-take-le}
 use Rattle.std.specs.Prelude.{MatchOption, All, AllPairs, slice_get}
 use Rattle.std.proofs.lemmas.List.{append-nil, map-append, length_push, get_or_append_left, get_or_at, take_more}
 use Rattle.std.proofs.lemmas.Grind.{flat_map-append}
@@ -19,9 +21,11 @@ use Rattle.profile_text.specs.declared.lines.TextLine.TheVariants.{Head, Distanc
 use Rattle.profile_text.specs.declared.steps.Stage.{Stage}
 use Rattle.profile_text.specs.declared.steps.Stage.TheVariants.{Start, Headed, Contexts, Edges, Ended}
 use Rattle.profile_text.specs.Distinct.{are_distinct}
-use Rattle.profile_text.specs.Profile.{line_text, text_of, context_line, context_lines, lines_of, IsContext, NodeFits, IsProfile}
+use Rattle.profile_text.specs.Profile.{line_text, text_of, context_line, context_lines, lines_of, IsContext, NodeFits}
+use Rattle.profile_text.specs.Profile.{IsProfile}
 use Rattle.profile_text.specs.Grammar.{Begins, Whole}
-use Rattle.profile_text.specs.Steps.{blank_profile, ends_before, is_behind, comes_behind, joins_next, comes_next, admits, added}
+use Rattle.profile_text.specs.Steps.{blank_profile, ends_before, is_behind, comes_behind, joins_next, comes_next}
+use Rattle.profile_text.specs.Steps.{admits, added}
 use Rattle.profile_text.proofs.LineLaws.{LineFits}
 
 -- the lines that have come, from the profile read so far

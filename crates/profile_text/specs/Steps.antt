@@ -1,5 +1,6 @@
 -- One line taken into the profile read so far.
-use Rattle.std.specs.Prelude.{◌≡◌, ℕ, ◌-◌, ◌==◌, ◌&&◌, ◌||◌, nat_lt, nat_le, if◌then◌else◌, List, [], ◌∷◌, ◌++◌, length, slice_get, Option, Some, None, Bool, true}
+use Rattle.std.specs.Prelude.{◌≡◌, ℕ, ◌-◌, ◌==◌, ◌&&◌, ◌||◌, nat_lt, nat_le, if◌then◌else◌, List, [], ◌∷◌, ◌++◌, length}
+use Rattle.std.specs.Prelude.{slice_get, Option, Some, None, Bool, true}
 use Rattle.plan_core.specs.declared.profiles.Edge.{Edge}
 use Rattle.plan_core.specs.declared.profiles.Profile.{Profile}
 use Rattle.profile_text.specs.declared.lines.ContextLine.{ContextLine}

@@ -1,7 +1,8 @@
 // The lines of a profile's text, each read from the front.
 ghost use Rattle.std.specs.Prelude.{◌≡◌, IfOk};
 ghost use Rattle.text_fields.specs.Reading.{Finds};
-ghost use Rattle.profile_text.specs.Reading.{distance_at, addr_at, addrs_on, addrs_at, numbers_at, context_at, edge_at, word_line_at, line_at};
+ghost use Rattle.profile_text.specs.Reading.{distance_at, addr_at, addrs_on, addrs_at, numbers_at, context_at, edge_at};
+ghost use Rattle.profile_text.specs.Reading.{word_line_at, line_at};
 
 use plan_core::{Context, Edge};
 use std::alloc::{AllocError, Global};

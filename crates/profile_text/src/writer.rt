@@ -3,7 +3,8 @@ ghost use Rattle.std.specs.Prelude.{◌≡◌, ◌<◌, ◌++◌, length, map, s
 ghost use Rattle.std.specs.List.{flat_map};
 ghost use Rattle.plan_core.specs.declared.profiles.Node.{Node as NodeValue};
 ghost use Rattle.profile_text.specs.declared.lines.TextLine.TheVariants.{Head, Distance, Granted, Joined, End};
-ghost use Rattle.profile_text.specs.Profile.{field_text, addr_text, line_text, text_of, context_line, context_lines, profile_text, IsProfile};
+ghost use Rattle.profile_text.specs.Profile.{field_text, addr_text, line_text, text_of, context_line, context_lines};
+ghost use Rattle.profile_text.specs.Profile.{profile_text, IsProfile};
 
 use plan_core::{Context, Edge, Node, Profile};
 use std::alloc::{AllocError, Global};

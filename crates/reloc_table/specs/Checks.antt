@@ -1,6 +1,7 @@
 -- What the relocations of a file are refused for, one test a check (gABI, "Relocation"; psABI,
 -- "Relocations").
-use Rattle.std.specs.Prelude.{ℕ, ◌%◌, ◌==◌, Bool, false, not, ◌&&◌, ◌||◌, List, [], ◌∷◌, Option, Some, None, nat_lt, slice_get}
+use Rattle.std.specs.Prelude.{ℕ, ◌%◌, ◌==◌, Bool, false, not, ◌&&◌, ◌||◌, List, [], ◌∷◌, Option, Some, None, nat_lt}
+use Rattle.std.specs.Prelude.{slice_get}
 use Rattle.std.specs.List.{list_any}
 use Rattle.elf_spec.specs.declared.Section.{Section}
 use Rattle.elf_spec.specs.declared.Reloc.{Reloc}

@@ -1,9 +1,11 @@
 -- Why the relocations of a file are refused: the first check that they fail, with its item, and the
 -- lowest index.
-use Rattle.std.specs.Prelude.{ℕ, zero, suc, ◌+◌, ◌*◌, ◌/◌, not, List, [], ◌∷◌, length, Option, None, option_map, position, if◌then◌else◌}
+use Rattle.std.specs.Prelude.{ℕ, zero, suc, ◌+◌, ◌*◌, ◌/◌, not, List, [], ◌∷◌, length, Option, None, option_map}
+use Rattle.std.specs.Prelude.{position, if◌then◌else◌}
 use Rattle.std.specs.List.{list_any}
 use Rattle.reloc_table.specs.declared.refusals.RelocRefusal.{RelocRefusal}
-use Rattle.reloc_table.specs.declared.refusals.RelocRefusal.TheVariants.{NoRelocs, EntrySize, SymbolOut, Tls, Compressed}
+use Rattle.reloc_table.specs.declared.refusals.RelocRefusal.TheVariants.{NoRelocs, EntrySize, SymbolOut, Tls}
+use Rattle.reloc_table.specs.declared.refusals.RelocRefusal.TheVariants.{Compressed}
 use Rattle.elf_spec.specs.declared.Section.{Section}
 use Rattle.elf_spec.specs.declared.Reloc.{Reloc}
 use Rattle.elf_spec.specs.Records.{reloc_at, sections_of}
@@ -40,7 +42,8 @@ section_refusal file symbols section s =
 abbrev pub entries_from : List ℕ → (symbols : ℕ) → List Section → ℕ → List Section → Option RelocRefusal
 entries_from file symbols all i [] = None
 entries_from file symbols all i (s ∷ ss) =
-    (if is_kept_rela all s then section_refusal file symbols i s else None) or_else entries_from file symbols all (i + 1) ss
+    (if is_kept_rela all s then section_refusal file symbols i s else None) or_else entries_from file symbols all
+    (i + 1) ss
 
 unfoldable pub bad_entry : List ℕ → (symbols : ℕ) → List Section → Option RelocRefusal
 bad_entry file symbols sections = entries_from file symbols sections 0 sections

@@ -1,7 +1,8 @@
 -- The places at which the entries of tables stand in a file. Each file offset has a slot, numbered so
 -- that the entries of a table, which are 12 bytes apart, have slots one after the other: first by the
 -- offset modulo 12, then by the offset.
-use Rattle.std.specs.Prelude.{◌≡◌, ℕ, zero, suc, ◌+◌, ◌-◌, ◌*◌, ◌/◌, ◌%◌, ◌==◌, ◌&&◌, ◌≤◌, Bool, List, [], ◌∷◌, ◌++◌, map, filter, flat_map, max, nat_le, nat_lt}
+use Rattle.std.specs.Prelude.{◌≡◌, ℕ, zero, suc, ◌+◌, ◌-◌, ◌*◌, ◌/◌, ◌%◌, ◌==◌, ◌&&◌, ◌≤◌, Bool, List, [], ◌∷◌, ◌++◌}
+use Rattle.std.specs.Prelude.{map, filter, flat_map, max, nat_le, nat_lt}
 use Rattle.std.specs.List.{list_any}
 use Rattle.std.specs.List.Sorted.{IsNonDecreasing}
 use Rattle.elf_spec.specs.declared.Reloc.{Reloc}
@@ -51,7 +52,8 @@ numbers from (suc n) = numbers from n ++ (from + n) ∷ []
 -- the slots of tables from one on, where the tables are in order of their first slots
 abbrev pub covered : ℕ → List EntryTable → List ℕ
 covered at [] = []
-covered at (t ∷ ts) = numbers (max at (slot_at t.offset)) (end_slot t - max at (slot_at t.offset)) ++ covered (max at (end_slot t)) ts
+covered at (t ∷ ts) = numbers (max at (slot_at t.offset)) (end_slot t - max at (slot_at t.offset))
+    ++ covered (max at (end_slot t)) ts
 
 -- numbers that are the slots of tables
 abbrev pub AreSlots : List EntryTable → List ℕ → Type 0

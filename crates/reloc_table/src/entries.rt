@@ -1,13 +1,15 @@
 // Relocation entries and the checks of each (gABI, "Relocation").
 
-ghost use Rattle.std.specs.Prelude.{◌≡◌, ℕ, ◌+◌, ◌*◌, ◌/◌, ◌<◌, ◌≤◌, ◌^◌, ◌++◌, ◌==◌, true, All, filter, length, map, IfOk, OnOk};
+ghost use Rattle.std.specs.Prelude.{◌≡◌, ℕ, ◌+◌, ◌*◌, ◌/◌, ◌<◌, ◌≤◌, ◌^◌, ◌++◌, ◌==◌, true, All, filter, length, map};
+ghost use Rattle.std.specs.Prelude.{IfOk, OnOk};
 ghost use Rattle.std.specs.List.{list_any};
 ghost use Rattle.std.specs.List.Sorted.{IsNonDecreasing};
 ghost use Rattle.elf_spec.specs.Records.{entries, reloc_at};
 ghost use Rattle.reloc_table.specs.Checks.{is_bad, is_compressed, is_tls};
 ghost use Rattle.elf_read.specs.Refusals.{Says};
 ghost use Rattle.reloc_table.specs.Refusals.{entry_refusal, section_refusal};
-ghost use Rattle.reloc_table.specs.Slots.{AreBad, AreSlots, IsSlotInside, IsTableInside, entries_of, entry_in, is_bad_at, is_slot_of, table_of};
+ghost use Rattle.reloc_table.specs.Slots.{AreBad, AreSlots, IsSlotInside, IsTableInside, entries_of, entry_in};
+ghost use Rattle.reloc_table.specs.Slots.{is_bad_at, is_slot_of, table_of};
 
 use crate::refusals::RelocRefusal;
 use crate::slots::{EntryTable, first_in, offset_of, slot_at};
@@ -134,7 +136,8 @@ pub fn check_section(
     requires inside { s.now.offset + s.now.size ≤ length file.now }
     requires short { length file.now < 2 ^ 32 }
     requires rise { IsNonDecreasing bad.now }
-    requires bad { (a : ℕ) → is_slot_of a (table_of s.now) ≡ true → list_any (λ b. b == a) bad.now ≡ is_bad_at file.now symbols a }
+    requires bad { (a : ℕ) → is_slot_of a (table_of s.now) ≡ true
+        → list_any (λ b. b == a) bad.now ≡ is_bad_at file.now symbols a }
     ensures { Says result (section_refusal file.now symbols section s.now) }
 {
     let start = slot_at(s.offset);

@@ -1,5 +1,6 @@
 -- What a site of an accepted file gives for its jump and its stub.
-use Rattle.std.proofs.Common.{◌≡◌, ◌⊎◌, inl, inr, ℕ, ◌+◌, ◌%◌, ◌^◌, ◌<◌, ◌≤◌, true, false, List, Option, Some, is_some, refl, sym, ap, ◌∙◌, arith, subst, append-nil, append_assoc}
+use Rattle.std.proofs.Common.{◌≡◌, ◌⊎◌, inl, inr, ℕ, ◌+◌, ◌%◌, ◌^◌, ◌<◌, ◌≤◌, true, false, List, Option, Some, is_some}
+use Rattle.std.proofs.Common.{refl, sym, ap, ◌∙◌, arith, subst, append-nil, append_assoc}
 use Rattle.std.specs.Prelude.{flat_map, ◌++◌}
 use Rattle.rv_isa.specs.declared.Instr.TheVariants.{Auipc, Jal, Jalr}
 use Rattle.rv_isa.specs.Encoded.{encoded, IsFormed}

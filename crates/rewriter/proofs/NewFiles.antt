@@ -1,11 +1,13 @@
 -- What a file that is made of the parts of a plan is.
-use Rattle.std.proofs.Common.{◌≡◌, ℕ, suc, ◌+◌, ◌<◌, ◌≤◌, true, false, List, [], ◌∷◌, ◌++◌, length, None, inl, arith, refl, ap, sym, ◌∙◌, subst}
+use Rattle.std.proofs.Common.{◌≡◌, ℕ, suc, ◌+◌, ◌<◌, ◌≤◌, true, false, List, [], ◌∷◌, ◌++◌, length, None, inl, arith}
+use Rattle.std.proofs.Common.{refl, ap, sym, ◌∙◌, subst}
 use Rattle.std.specs.Prelude.{nat_lt}
 use Rattle.std.specs.List.{All}
 use Rattle.std.proofs.lemmas.Bool.Decides.{nat_tests}
 use Rattle.std.proofs.lemmas.List.Elements.{All-cons, All-nil}
 use Rattle.elf_spec.specs.declared.HeapName.{HeapName}
-use Rattle.elf_spec.specs.declared.HeapName.TheVariants.{Malloc, Calloc, Realloc, Free, MallocR, CallocR, ReallocR, FreeR}
+use Rattle.elf_spec.specs.declared.HeapName.TheVariants.{Malloc, Calloc, Realloc, Free, MallocR, CallocR, ReallocR}
+use Rattle.elf_spec.specs.declared.HeapName.TheVariants.{FreeR}
 use Rattle.elf_spec.specs.declared.NewSegment.{NewSegment}
 use Rattle.elf_spec.specs.declared.Patch.{Patch}
 use Rattle.elf_spec.specs.Heap.{heap_entries}
@@ -17,7 +19,8 @@ use Rattle.site_spec.specs.Plans.{Fits}
 use Rattle.heap_spec.specs.Functions.{IsWord, entry_of}
 use Rattle.heap_spec.specs.Service.{Entries}
 use Rattle.heap_code.specs.Images.{Holds}
-use Rattle.new_file_spec.specs.Rewritten.{NewFile, data_segment, has_heap, heap_patches, heap_segments, heap_text, patches_for, rewritten, segments_for, text_segment}
+use Rattle.new_file_spec.specs.Rewritten.{NewFile, data_segment, has_heap, heap_patches, heap_segments, heap_text}
+use Rattle.new_file_spec.specs.Rewritten.{patches_for, rewritten, segments_for, text_segment}
 use Rattle.elf_read.specs.Elf.{IsReadable}
 use Rattle.elf_write.specs.Kept.{AreAddedAbove, AreFieldsAlone, AreTablesUnpatched, DoHeadersPass}
 use Rattle.elf_write.specs.Layout.{AreApart, IsBeside, IsKept, NewLayout}

@@ -1,6 +1,8 @@
 -- A turn sets and clears the bits that its note says.
-use Rattle.std.proofs.Common.{◌≡◌, ℕ, ◌/◌, ◌*◌, ◌==◌, ◌&&◌, Bool, true, false, List, [], refl, ap, sym, ◌∙◌, subst, inl, inr}
-use Rattle.std.specs.Prelude.{All, IsSome, Option, Some, None, if◌then◌else◌, is_some, option_and_then, option_map, slice_get, slice_set}
+use Rattle.std.proofs.Common.{◌≡◌, ℕ, ◌/◌, ◌*◌, ◌==◌, ◌&&◌, Bool, true, false, List, [], refl, ap, sym, ◌∙◌, subst, inl}
+use Rattle.std.proofs.Common.{inr}
+use Rattle.std.specs.Prelude.{All, IsSome, Option, Some, None, if◌then◌else◌, is_some, option_and_then, option_map}
+use Rattle.std.specs.Prelude.{slice_get, slice_set}
 use Rattle.std.proofs.lemmas.Bool.{both_ways, eq-eqb}
 use Rattle.rv_isa.specs.declared.Instr.{Instr}
 use Rattle.rv_isa.specs.declared.Instr.TheVariants.{Auipc, Jal, Jalr, Ecall}
@@ -17,10 +19,13 @@ use Rattle.site_spec.specs.declared.Site.{Site}
 use Rattle.site_spec.specs.Sites.{code_at, site_at}
 use Rattle.sym_value.specs.declared.Value.{Value}
 use Rattle.sym_value.specs.declared.Value.TheVariants.{Num, Ptr, Ret, Mix, Part, Unset}
-use Rattle.sym_spec.specs.SymMachine.{SymMachine, back_index, calls_from, clear_bit, faults, goes_back, jumps, line_at, links, set_bit, value_of}
+use Rattle.sym_spec.specs.SymMachine.{SymMachine, back_index, calls_from, clear_bit, faults, goes_back, jumps, line_at}
+use Rattle.sym_spec.specs.SymMachine.{links, set_bit, value_of}
 use Rattle.sym_spec.specs.SymCalls.{SymTurn, calls}
-use Rattle.sym_spec.specs.SymTurns.{Here, Nothing, Heap, Pair, Code, acts, executes, here, jumps_to, runs_here, turn, turn_of}
-use Rattle.sym_spec.specs.SymNotes.{back_through, empty_note, ending_note, heap_note, here_note, instr_note, is_fault, note, return_in}
+use Rattle.sym_spec.specs.SymTurns.{Here, Nothing, Heap, Pair, Code, acts, executes, here, jumps_to, runs_here, turn}
+use Rattle.sym_spec.specs.SymTurns.{turn_of}
+use Rattle.sym_spec.specs.SymNotes.{back_through, empty_note, ending_note, heap_note, here_note, instr_note, is_fault}
+use Rattle.sym_spec.specs.SymNotes.{note, return_in}
 use Rattle.sym_spec.specs.HeapActions.{Outcome, answered, outcome, returns, returns_with, serves}
 use Rattle.run_laws.specs.Turns.{SetsBits, bits_after}
 use Rattle.run_laws.proofs.HeapTurns.{Served, outcome_served, running}

@@ -1,10 +1,12 @@
 -- A turn grants and releases what its note says.
-use Rattle.std.proofs.Common.{◌≡◌, ℕ, ◌*◌, ◌^◌, ◌≤◌, ◌==◌, Bool, true, false, ◌&&◌, List, [], ◌∷◌, ◌++◌, length, refl, ap, sym, ◌∙◌, subst, arith}
+use Rattle.std.proofs.Common.{◌≡◌, ℕ, ◌*◌, ◌^◌, ◌≤◌, ◌==◌, Bool, true, false, ◌&&◌, List, [], ◌∷◌, ◌++◌, length, refl}
+use Rattle.std.proofs.Common.{ap, sym, ◌∙◌, subst, arith}
 use Rattle.std.specs.Prelude.{Option, Some, None, if◌then◌else◌, is_some, nat_lt, option_map, slice_get, slice_set}
 use Rattle.rv_isa.specs.declared.Instr.{Instr}
 use Rattle.rv_isa.specs.Table.{decoded}
 use Rattle.elf_spec.specs.declared.HeapName.{HeapName}
-use Rattle.elf_spec.specs.declared.HeapName.TheVariants.{Malloc, Calloc, Realloc, Free, MallocR, CallocR, ReallocR, FreeR}
+use Rattle.elf_spec.specs.declared.HeapName.TheVariants.{Malloc, Calloc, Realloc, Free, MallocR, CallocR, ReallocR}
+use Rattle.elf_spec.specs.declared.HeapName.TheVariants.{FreeR}
 use Rattle.elf_spec.specs.Code.{code_word}
 use Rattle.machine_spec.specs.declared.Ending.{Ending}
 use Rattle.machine_spec.specs.declared.Ending.TheVariants.{Running, Exit, Illegal, Fault}
@@ -23,7 +25,9 @@ use Rattle.sym_spec.specs.SymMachine.{SymMachine, faults, goes_back, lives_of, v
 use Rattle.sym_spec.specs.SymCalls.{SymTurn}
 use Rattle.sym_spec.specs.SymTurns.{Here, Nothing, Heap, Pair, Code, executes, here, runs_here, turn, turn_of}
 use Rattle.sym_spec.specs.SymNotes.{empty_note, ending_note, heap_note, here_note, instr_note, is_fault, note}
-use Rattle.sym_spec.specs.HeapActions.{Action, Outcome, answered, base, callocs, frees, function, granule_in, grants, grants_placed, is_front, mallocs, moves, moves_placed, outcome, reallocs, releases, returns, returns_with, serves}
+use Rattle.sym_spec.specs.HeapActions.{Action, Outcome, answered, base, callocs, frees, function, granule_in, grants}
+use Rattle.sym_spec.specs.HeapActions.{grants_placed, is_front, mallocs, moves, moves_placed, outcome, reallocs}
+use Rattle.sym_spec.specs.HeapActions.{releases, returns, returns_with, serves}
 use Rattle.run_laws.specs.Turns.{IsGranted, AfterRelease, ServesHeap, heap_of, with_block}
 use Rattle.run_laws.proofs.Keeps.{executes_heap}
 use Rattle.run_laws.proofs.Lists.{still_there}

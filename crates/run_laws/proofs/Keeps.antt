@@ -2,7 +2,8 @@
 use Rattle.std.proofs.Common.{◌≡◌, ℕ, ◌*◌, ◌/◌, List, Bool, true, false, cond, take, refl, ap}
 use Rattle.std.specs.Prelude.{Option, Some, None, is_some, ◌==◌, ◌&&◌, ◌||◌}
 use Rattle.rv_isa.specs.declared.Instr.{Instr}
-use Rattle.rv_isa.specs.declared.Instr.TheVariants.{Lui, Auipc, Jal, Jalr, Branch, Load, Store, OpImm, Reg, Fence, Ecall, Ebreak}
+use Rattle.rv_isa.specs.declared.Instr.TheVariants.{Lui, Auipc, Jal, Jalr, Branch, Load, Store, OpImm, Reg, Fence}
+use Rattle.rv_isa.specs.declared.Instr.TheVariants.{Ecall, Ebreak}
 use Rattle.rv_isa.specs.Addresses.{plus}
 use Rattle.elf_spec.specs.Code.{code_word}
 use Rattle.plan_core.specs.declared.types.Plan.{Plan}
@@ -14,7 +15,8 @@ use Rattle.sym_cells.specs.Memory.{Memory, loaded, stored}
 use Rattle.sym_cells.specs.Buffers.{filled, is_within, taken}
 use Rattle.sym_spec.specs.Plain.{is_plain, is_plain_store}
 use Rattle.sym_spec.specs.SymMachine.{SymMachine, lives_of, value_of, jumps, links, loads, stores}
-use Rattle.sym_spec.specs.SymCalls.{SymTurn, buffer_in, calls, calls_by, calls_with, reads, reads_into, reads_to, word_in, writes, writes_from, writes_known}
+use Rattle.sym_spec.specs.SymCalls.{SymTurn, buffer_in, calls, calls_by, calls_with, reads, reads_into, reads_to}
+use Rattle.sym_spec.specs.SymCalls.{word_in, writes, writes_from, writes_known}
 use Rattle.sym_spec.specs.SymTurns.{acts, address_of, branches, executes, jumps_to}
 use Rattle.run_laws.specs.Turns.{heap_of}
 use Rattle.run_laws.proofs.Stores.{lives, KeepsCells, filled_lives, stored_lives}

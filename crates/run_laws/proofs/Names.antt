@@ -1,5 +1,6 @@
 -- Which live block of a layout is which block of the run, and for which group it was granted.
-use Rattle.std.proofs.Common.{◌≡◌, ◌≢◌, ◌⊎◌, ◌∙◌, ℕ, ◌+◌, ◌*◌, ◌<◌, ◌≤◌, List, [], ◌∷◌, ◌++◌, true, false, length, refl, sym, ap, subst, inl, inr, arith, length-append, length-set}
+use Rattle.std.proofs.Common.{◌≡◌, ◌≢◌, ◌⊎◌, ◌∙◌, ℕ, ◌+◌, ◌*◌, ◌<◌, ◌≤◌, List, [], ◌∷◌, ◌++◌, true, false, length, refl}
+use Rattle.std.proofs.Common.{sym, ap, subst, inl, inr, arith, length-append, length-set}
 use Rattle.std.specs.Prelude.{All, Some, slice_get, slice_index, Option}
 use Rattle.std.proofs.lemmas.Option.{slice_get_within}
 use Rattle.plan_core.specs.declared.types.Plan.{Plan}

@@ -1,5 +1,6 @@
 -- Two grants in a chunk that stays in use, with none in it between them.
-use Rattle.std.proofs.Common.{◌≡◌, ◌∙◌, ℕ, suc, ◌+◌, ◌*◌, ◌<◌, ◌≤◌, false, List, [], ◌∷◌, ◌++◌, length, refl, sym, ap, subst, arith}
+use Rattle.std.proofs.Common.{◌≡◌, ◌∙◌, ℕ, suc, ◌+◌, ◌*◌, ◌<◌, ◌≤◌, false, List, [], ◌∷◌, ◌++◌, length, refl, sym, ap}
+use Rattle.std.proofs.Common.{subst, arith}
 use Rattle.std.specs.Prelude.{All, Option, Some, None, count_by, slice_get, slice_index}
 use Rattle.std.proofs.lemmas.List.Elements.{All-append, All-cons, All-nil}
 use Rattle.std.proofs.lemmas.Option.{slice_get_within}
@@ -8,7 +9,8 @@ use Rattle.plan_core.specs.declared.types.Plan.{Plan}
 use Rattle.plan_core.specs.declared.types.Row.{Row}
 use Rattle.place_spec.specs.Layout.{Layout, address_of, chunk_front, chunk_of}
 use Rattle.place_spec.specs.Place.{Placed, placed}
-use Rattle.place_spec.specs.Reached.{IsAllowed, Places, PlacesElsewhere, Request, StandsIn, StaysInUse, layout_after, layout_after_all}
+use Rattle.place_spec.specs.Reached.{IsAllowed, Places, PlacesElsewhere, Request, StandsIn, StaysInUse, layout_after}
+use Rattle.place_spec.specs.Reached.{layout_after_all}
 use Rattle.place_spec.specs.Release.{released}
 use Rattle.place_spec.specs.Sound.{Sound, is_in_chunk}
 use Rattle.sym_value.specs.Places.{capacity_in}

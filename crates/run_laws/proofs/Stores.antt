@@ -1,5 +1,6 @@
 -- Stores, grants, copies and deaths, as far as values see the blocks.
-use Rattle.std.proofs.Common.{◌≡◌, ℕ, zero, suc, ◌*◌, List, [], ◌∷◌, ◌++◌, Bool, true, false, cond, length, map, replicate, refl, ap, sym, ◌∙◌, arith}
+use Rattle.std.proofs.Common.{◌≡◌, ℕ, zero, suc, ◌*◌, List, [], ◌∷◌, ◌++◌, Bool, true, false, cond, length, map}
+use Rattle.std.proofs.Common.{replicate, refl, ap, sym, ◌∙◌, arith}
 use Rattle.std.specs.Prelude.{Option, Some, None, option_map, option_and_then, slice_get, slice_set, take, drop}
 use Rattle.std.proofs.lemmas.List.{length-append, length-drop, length-replicate, length-take, map-append}
 use Rattle.std.proofs.lemmas.Option.{get_or_from_slice_get}
@@ -11,7 +12,8 @@ use Rattle.sym_value.specs.declared.Value.TheVariants.{Num, Ptr, Ret, Mix, Part,
 use Rattle.sym_value.specs.declared.live.Life.{Life}
 use Rattle.sym_cells.specs.Cells.{Cell, blank_cell, zero_cell}
 use Rattle.sym_cells.specs.Moves.{store}
-use Rattle.sym_cells.specs.Memory.{Block, Memory, copied, died, dropped, granted, life_of, overlaid, overlaid_block, set_block, store_plain, stored, stored_in}
+use Rattle.sym_cells.specs.Memory.{Block, Memory, copied, died, dropped, granted, life_of, overlaid, overlaid_block}
+use Rattle.sym_cells.specs.Memory.{set_block, store_plain, stored, stored_in}
 use Rattle.sym_cells.specs.Buffers.{filled, is_within, next_byte, stored_each}
 use Rattle.run_laws.specs.Turns.{new_life}
 

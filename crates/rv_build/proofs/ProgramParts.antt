@@ -5,7 +5,8 @@ use Rattle.rv_isa.specs.declared.Instr.{Instr}
 use Rattle.rv_build.specs.declared.labels.Label.{Label}
 use Rattle.rv_build.specs.Parts.{Parts, AreSmall, no_parts, with_code, with_symbol, with_symbols, with_relocs}
 use Rattle.rv_build.specs.Assembly.{placed, s0, s1}
-use Rattle.rv_build.specs.Generated.{building, adding, prepending, allocating, calls, functions, instructions, left, right, node, program}
+use Rattle.rv_build.specs.Generated.{building, adding, prepending, allocating, calls, functions, instructions, left}
+use Rattle.rv_build.specs.Generated.{right, node, program}
 
 -- parts with the words of these lines, which stand at an address
 abbrev pub and_lines : Parts → ℕ → List (ℕ → Instr) → Parts

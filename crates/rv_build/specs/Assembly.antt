@@ -5,7 +5,8 @@ use Rattle.rv_isa.specs.declared.Op.TheVariants.{Add, And}
 use Rattle.rv_isa.specs.declared.Cond.TheVariants.{Eq, Ne}
 use Rattle.rv_isa.specs.declared.Width.TheVariants.{Word}
 use Rattle.rv_isa.specs.declared.Instr.{Instr}
-use Rattle.rv_isa.specs.declared.Instr.TheVariants.{Lui, Auipc, Jal, Jalr, Branch, Load, Store, OpImm, Reg, Ecall, Ebreak}
+use Rattle.rv_isa.specs.declared.Instr.TheVariants.{Lui, Auipc, Jal, Jalr, Branch, Load, Store, OpImm, Reg, Ecall}
+use Rattle.rv_isa.specs.declared.Instr.TheVariants.{Ebreak}
 use Rattle.rv_isa.specs.Addresses.{minus}
 
 -- the registers (psABI, "Integer Register Convention")

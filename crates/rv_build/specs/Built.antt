@@ -17,7 +17,8 @@ ended text = text ++ 0 ∷ []
 -- the names of the sections, from the byte 0 of the strings on: .text at 1, .rela.text at 7, .symtab
 -- at 18 and .strtab at 26
 abbrev pub section_names : List ℕ
-section_names = 0 ∷ ended (codes ".text") ++ ended (codes ".rela.text") ++ ended (codes ".symtab") ++ ended (codes ".strtab")
+section_names = 0 ∷ ended (codes ".text") ++ ended (codes ".rela.text") ++ ended (codes ".symtab")
+    ++ ended (codes ".strtab")
 
 -- the symbols' names, the first at 34
 abbrev pub symbol_names : List Label → List ℕ

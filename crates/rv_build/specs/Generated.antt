@@ -9,7 +9,8 @@ use Rattle.rv_isa.specs.Encoded.{encoded}
 use Rattle.rv_build.specs.declared.labels.Label.{Label}
 use Rattle.rv_build.specs.Parts.{Parts}
 use Rattle.rv_build.specs.Built.{built_file}
-use Rattle.rv_build.specs.Assembly.{x0, ra, sp, s0, s1, a0, a4, a5, a7, s2, s3, s4, below_zero, lui, auipc, addi, andi, add, lw, sw, jal, jalr, beq, bne, ecall, ebreak, placed}
+use Rattle.rv_build.specs.Assembly.{x0, ra, sp, s0, s1, a0, a4, a5, a7, s2, s3, s4, below_zero, lui, auipc, addi, andi}
+use Rattle.rv_build.specs.Assembly.{add, lw, sw, jal, jalr, beq, bne, ecall, ebreak, placed}
 
 -- where the functions stand
 abbrev pub left : ℕ

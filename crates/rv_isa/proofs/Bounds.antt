@@ -1,5 +1,6 @@
 -- What operations give of words, and the word of an instruction, are below 2^32.
-use Rattle.std.proofs.Common.{ℕ, ◌-◌, ◌*◌, ◌/◌, ◌%◌, ◌^◌, ◌<◌, ◌≤◌, zero, suc, Bool, true, false, ℤ, pos, negsuc, ◌*ℤ◌, neg_ℤ, unsigned_abs, of_z, w32, w64, lit<, FitsSigned, rules, arith}
+use Rattle.std.proofs.Common.{ℕ, ◌-◌, ◌*◌, ◌/◌, ◌%◌, ◌^◌, ◌<◌, ◌≤◌, zero, suc, Bool, true, false, ℤ, pos, negsuc, ◌*ℤ◌}
+use Rattle.std.proofs.Common.{neg_ℤ, unsigned_abs, of_z, w32, w64, lit<, FitsSigned, rules, arith}
 use Rattle.std.specs.Prelude.{nat_lt, ◌==◌, if◌then◌else◌, int_lt}
 use Rattle.std.specs.Int.{int_shr}
 use Rattle.std.specs.Int.RustNames.{int_div, int_rem}
@@ -9,14 +10,17 @@ use Rattle.std.proofs.Math.Facts.{Fits-of_z}
 use Rattle.std.proofs.lemmas.Nat.{xor_lt}
 use Rattle.std.proofs.lemmas.Int.{fits_signed_mul}
 use Rattle.rv_isa.specs.declared.Op.{Op}
-use Rattle.rv_isa.specs.declared.Op.TheVariants.{Add, Sub, Sll, Slt, Sltu, Xor, Srl, Sra, Or, And, Mul, Mulh, Mulhsu, Mulhu, Div, Divu, Rem, Remu}
+use Rattle.rv_isa.specs.declared.Op.TheVariants.{Add, Sub, Sll, Slt, Sltu, Xor, Srl, Sra, Or, And, Mul, Mulh, Mulhsu}
+use Rattle.rv_isa.specs.declared.Op.TheVariants.{Mulhu, Div, Divu, Rem, Remu}
 use Rattle.rv_isa.specs.declared.Cond.{Cond}
 use Rattle.rv_isa.specs.declared.Cond.TheVariants.{Eq}
 use Rattle.rv_isa.specs.declared.Width.{Width}
 use Rattle.rv_isa.specs.declared.Width.TheVariants.{Byte}
 use Rattle.rv_isa.specs.declared.Instr.{Instr}
-use Rattle.rv_isa.specs.declared.Instr.TheVariants.{Lui, Auipc, Jal, Jalr, Branch, Load, Store, OpImm, Reg, Fence, Ecall, Ebreak}
-use Rattle.rv_isa.specs.Encoded.{encoded, funct3_of, funct7_of, funct3_of_cond, funct3_of_width, is_shift, r_word, i_word, s_word, b_word}
+use Rattle.rv_isa.specs.declared.Instr.TheVariants.{Lui, Auipc, Jal, Jalr, Branch, Load, Store, OpImm, Reg, Fence}
+use Rattle.rv_isa.specs.declared.Instr.TheVariants.{Ecall, Ebreak}
+use Rattle.rv_isa.specs.Encoded.{encoded, funct3_of, funct7_of, funct3_of_cond, funct3_of_width, is_shift, r_word}
+use Rattle.rv_isa.specs.Encoded.{i_word, s_word, b_word}
 use Rattle.rv_isa.specs.Compute.{signed, word_of, upper_word, computed}
 
 either-lt : (b : Bool) (x y : ℕ) → x < 2 ^ 32 → y < 2 ^ 32 → (if b then x else y) < 2 ^ 32

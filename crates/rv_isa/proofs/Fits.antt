@@ -1,5 +1,6 @@
 -- A word fits a row where its fields are the row's: the table by fields in place of masks.
-use Rattle.std.proofs.Common.{◌≡◌, ℕ, ◌+◌, ◌*◌, ◌/◌, ◌%◌, ◌^◌, ◌<◌, Bool, true, List, [], ◌∷◌, refl, ◌∙◌, sym, ap, arith}
+use Rattle.std.proofs.Common.{◌≡◌, ℕ, ◌+◌, ◌*◌, ◌/◌, ◌%◌, ◌^◌, ◌<◌, Bool, true, List, [], ◌∷◌, refl, ◌∙◌, sym, ap}
+use Rattle.std.proofs.Common.{arith}
 use Rattle.std.specs.Prelude.{◌==◌, nat_lt, ◌&&◌, if◌then◌else◌, bit_and, Option, None, Some}
 use Rattle.std.proofs.lemmas.Nat.{and_mask, and_block, shr_split}
 use Rattle.std.proofs.lemmas.Bool.Decides.{nat_tests}
@@ -10,7 +11,8 @@ use Rattle.rv_isa.specs.Table.{Shape, Opcode, Funct3, Funct7, Whole, mask_of, ma
 low_masked : (w : ℕ) → bit_and w 0x707f ≡ w % 2 ^ 7 + w / 2 ^ 12 % 2 ^ 3 * 2 ^ 12
 low_masked w =
     let split : w ≡ w / 2 ^ 12 * 2 ^ 12 + w % 2 ^ 12 = sym (shr_split w 12) in
-    let cut : bit_and (w / 2 ^ 12 * 2 ^ 12 + w % 2 ^ 12) (7 * 2 ^ 12 + 0x7f) ≡ bit_and (w / 2 ^ 12) 7 * 2 ^ 12 + bit_and (w % 2 ^ 12) 0x7f =
+    let cut : bit_and (w / 2 ^ 12 * 2 ^ 12 + w % 2 ^ 12) (7 * 2 ^ 12 + 0x7f)
+    ≡ bit_and (w / 2 ^ 12) 7 * 2 ^ 12 + bit_and (w % 2 ^ 12) 0x7f =
     and_block 12 (w / 2 ^ 12) 7 (w % 2 ^ 12) 0x7f (omega arith) (omega arith) in
     let high : bit_and (w / 2 ^ 12) 7 ≡ w / 2 ^ 12 % 2 ^ 3 = and_mask (w / 2 ^ 12) 3 in
     let low : bit_and (w % 2 ^ 12) 0x7f ≡ w % 2 ^ 12 % 2 ^ 7 = and_mask (w % 2 ^ 12) 7 in
@@ -21,7 +23,8 @@ high_masked :
     (w : ℕ) → w < 2 ^ 32 → bit_and w 0xfe00707f ≡ w % 2 ^ 7 + w / 2 ^ 12 % 2 ^ 3 * 2 ^ 12 + w / 2 ^ 25 * 2 ^ 25
 high_masked w m =
     let split : w ≡ w / 2 ^ 25 * 2 ^ 25 + w % 2 ^ 25 = sym (shr_split w 25) in
-    let cut : bit_and (w / 2 ^ 25 * 2 ^ 25 + w % 2 ^ 25) (127 * 2 ^ 25 + 0x707f) ≡ bit_and (w / 2 ^ 25) 127 * 2 ^ 25 + bit_and (w % 2 ^ 25) 0x707f =
+    let cut : bit_and (w / 2 ^ 25 * 2 ^ 25 + w % 2 ^ 25) (127 * 2 ^ 25 + 0x707f)
+    ≡ bit_and (w / 2 ^ 25) 127 * 2 ^ 25 + bit_and (w % 2 ^ 25) 0x707f =
     and_block 25 (w / 2 ^ 25) 127 (w % 2 ^ 25) 0x707f (omega arith) (omega arith) in
     let high : bit_and (w / 2 ^ 25) 127 ≡ w / 2 ^ 25 % 2 ^ 7 = and_mask (w / 2 ^ 25) 7 in
     let low = low_masked (w % 2 ^ 25) in

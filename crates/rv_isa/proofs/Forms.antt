@@ -7,7 +7,8 @@ use Rattle.rv_isa.specs.Words.{extended, bits_at, rd, rs1, rs2, imm_i, imm_s, im
 use Rattle.rv_isa.specs.Table.{table, decoded}
 use Rattle.rv_isa.specs.Encoded.{IsExtended, r_word, i_word, s_word, b_word, u_word, j_word}
 use Rattle.rv_isa.proofs.Fits.{read_fields, decoded_by}
-use Rattle.rv_isa.proofs.Extended.{extended_12, extended_13, extended_21, extended_back_12, extended_back_13, extended_back_21}
+use Rattle.rv_isa.proofs.Extended.{extended_12, extended_13, extended_21, extended_back_12, extended_back_13}
+use Rattle.rv_isa.proofs.Extended.{extended_back_21}
 
 -- a word is made of its fields
 pub r_again :
@@ -129,7 +130,8 @@ b_back o f make row lo lf a b c la lb h e =
     let ef : w / 2 ^ 12 % 2 ^ 3 ≡ f = omega arith in
     let ea : rs1 w ≡ a = omega arith in
     let eb : rs2 w ≡ b = omega arith in
-    let low : w / 2 ^ 31 * 2 ^ 12 + bits_at 7 1 w * 2 ^ 11 + bits_at 25 6 w * 2 ^ 5 + bits_at 8 4 w * 2 ≡ c % 2 ^ 13 = omega arith in
+    let low : w / 2 ^ 31 * 2 ^ 12 + bits_at 7 1 w * 2 ^ 11 + bits_at 25 6 w * 2 ^ 5 + bits_at 8 4 w * 2 ≡ c % 2 ^ 13 =
+    omega arith in
     let ec : imm_b w ≡ c = ap (λ v. extended 13 v) low ∙ extended_back_13 c h in
     at ∙ fields_are o f (w / 2 ^ 25) (w % 2 ^ 7) (w / 2 ^ 12 % 2 ^ 3) (w / 2 ^ 25) w eo ef refl ∙ row (w / 2 ^ 25) w
     ∙ made_3 make a b c (rs1 w) (rs2 w) (imm_b w) ea eb ec
@@ -146,7 +148,8 @@ u_back o make row lo a b la lb e =
     let eo : w % 2 ^ 7 ≡ o = omega arith in
     let ea : rd w ≡ a = omega arith in
     let eb : imm_u w ≡ b = omega arith in
-    at ∙ fields_are o (w / 2 ^ 12 % 2 ^ 3) (w / 2 ^ 25) (w % 2 ^ 7) (w / 2 ^ 12 % 2 ^ 3) (w / 2 ^ 25) w eo refl refl ∙ row (w / 2 ^ 12 % 2 ^ 3) (w / 2 ^ 25) w
+    at ∙ fields_are o (w / 2 ^ 12 % 2 ^ 3) (w / 2 ^ 25) (w % 2 ^ 7) (w / 2 ^ 12 % 2 ^ 3) (w / 2 ^ 25) w eo refl refl
+    ∙ row (w / 2 ^ 12 % 2 ^ 3) (w / 2 ^ 25) w
     ∙ made_2 make a b (rd w) (imm_u w) ea eb
 
 pub j_back :
@@ -160,9 +163,11 @@ j_back o make row lo a b la h e =
     let at = decoded_by w m in
     let eo : w % 2 ^ 7 ≡ o = omega arith in
     let ea : rd w ≡ a = omega arith in
-    let low : w / 2 ^ 31 * 2 ^ 20 + bits_at 12 8 w * 2 ^ 12 + bits_at 20 1 w * 2 ^ 11 + bits_at 21 10 w * 2 ≡ b % 2 ^ 21 = omega arith in
+    let low : w / 2 ^ 31 * 2 ^ 20 + bits_at 12 8 w * 2 ^ 12 + bits_at 20 1 w * 2 ^ 11 + bits_at 21 10 w * 2
+    ≡ b % 2 ^ 21 = omega arith in
     let eb : imm_j w ≡ b = ap (λ v. extended 21 v) low ∙ extended_back_21 b h in
-    at ∙ fields_are o (w / 2 ^ 12 % 2 ^ 3) (w / 2 ^ 25) (w % 2 ^ 7) (w / 2 ^ 12 % 2 ^ 3) (w / 2 ^ 25) w eo refl refl ∙ row (w / 2 ^ 12 % 2 ^ 3) (w / 2 ^ 25) w
+    at ∙ fields_are o (w / 2 ^ 12 % 2 ^ 3) (w / 2 ^ 25) (w % 2 ^ 7) (w / 2 ^ 12 % 2 ^ 3) (w / 2 ^ 25) w eo refl refl
+    ∙ row (w / 2 ^ 12 % 2 ^ 3) (w / 2 ^ 25) w
     ∙ made_2 make a b (rd w) (imm_j w) ea eb
 
 -- a fence is its opcode and all other bits

@@ -1,5 +1,6 @@
 -- Each row's words: the instruction that is read is formed, and its word is the word that was read.
-use Rattle.std.proofs.Common.{◌≡◌, ℕ, ◌+◌, ◌*◌, ◌/◌, ◌%◌, ◌^◌, ◌<◌, Bool, true, false, List, [], ◌∷◌, refl, subst, arith}
+use Rattle.std.proofs.Common.{◌≡◌, ℕ, ◌+◌, ◌*◌, ◌/◌, ◌%◌, ◌^◌, ◌<◌, Bool, true, false, List, [], ◌∷◌, refl, subst}
+use Rattle.std.proofs.Common.{arith}
 use Rattle.std.specs.Prelude.{if◌then◌else◌, Option, Some}
 use Rattle.std.proofs.lemmas.Bool.Decides.{nat_tests}
 use Rattle.rv_isa.specs.declared.Instr.{Instr}
@@ -125,59 +126,157 @@ all_read = (
                                         (
                                           λ w m h. record { word = i_again 0x13 3 w m h.0 h.1; formed = i_ranges w m },
                                           (
-                                            λ w m h. record { word = i_again 0x13 4 w m h.0 h.1; formed = i_ranges w m },
+                                            λ w m h. record {
+                                              word = i_again 0x13 4 w m h.0 h.1;
+                                              formed =
+                                                  i_ranges w m;
+                                            },
                                             (
-                                              λ w m h. record { word = i_again 0x13 6 w m h.0 h.1; formed = i_ranges w m },
+                                              λ w m h. record
+                                                  { word = i_again 0x13 6 w m h.0 h.1; formed = i_ranges w m },
                                               (
-                                                λ w m h. record { word = i_again 0x13 7 w m h.0 h.1; formed = i_ranges w m },
+                                                λ w m h. record
+                                                    { word = i_again 0x13 7 w m h.0 h.1; formed = i_ranges w m },
                                                 (
-                                                  λ w m h. record { word = r_again 0x13 1 0x0 w m h.0 h.1 h.2; formed = r_ranges w },
+                                                  λ w m h. record {
+                                                    word = r_again 0x13 1 0x0 w m h.0 h.1 h.2;
+                                                    formed =
+                                                        r_ranges w;
+                                                  },
                                                   (
-                                                    λ w m h. record { word = r_again 0x13 5 0x0 w m h.0 h.1 h.2; formed = r_ranges w },
+                                                    λ w m h. record {
+                                                      word = r_again 0x13 5 0x0 w m h.0 h.1 h.2;
+                                                      formed =
+                                                          r_ranges w;
+                                                    },
                                                     (
-                                                      λ w m h. record { word = r_again 0x13 5 0x20 w m h.0 h.1 h.2; formed = r_ranges w },
+                                                      λ w m h. record {
+                                                        word = r_again 0x13 5 0x20 w m h.0 h.1 h.2;
+                                                        formed =
+                                                            r_ranges w;
+                                                      },
                                                       (
-                                                        λ w m h. record { word = r_again 0x33 0 0x0 w m h.0 h.1 h.2; formed = r_ranges w },
+                                                        λ w m h. record {
+                                                          word = r_again 0x33 0 0x0 w m h.0 h.1 h.2;
+                                                          formed =
+                                                              r_ranges w;
+                                                        },
                                                         (
-                                                          λ w m h. record { word = r_again 0x33 0 0x20 w m h.0 h.1 h.2; formed = r_ranges w },
+                                                          λ w m h. record {
+                                                            word = r_again 0x33 0 0x20 w m h.0 h.1 h.2;
+                                                            formed =
+                                                                r_ranges w;
+                                                          },
                                                           (
-                                                            λ w m h. record { word = r_again 0x33 1 0x0 w m h.0 h.1 h.2; formed = r_ranges w },
+                                                            λ w m h. record {
+                                                              word = r_again 0x33 1 0x0 w m h.0 h.1 h.2;
+                                                              formed =
+                                                                  r_ranges w;
+                                                            },
                                                             (
-                                                              λ w m h. record { word = r_again 0x33 2 0x0 w m h.0 h.1 h.2; formed = r_ranges w },
+                                                              λ w m h. record {
+                                                                word = r_again 0x33 2 0x0 w m h.0 h.1 h.2;
+                                                                formed =
+                                                                    r_ranges w;
+                                                              },
                                                               (
-                                                                λ w m h. record { word = r_again 0x33 3 0x0 w m h.0 h.1 h.2; formed = r_ranges w },
+                                                                λ w m h. record {
+                                                                  word = r_again 0x33 3 0x0 w m h.0 h.1 h.2;
+                                                                  formed = r_ranges w;
+                                                                },
                                                                 (
-                                                                  λ w m h. record { word = r_again 0x33 4 0x0 w m h.0 h.1 h.2; formed = r_ranges w },
+                                                                  λ w m h. record {
+                                                                    word = r_again 0x33 4 0x0 w m h.0 h.1 h.2;
+                                                                    formed = r_ranges w;
+                                                                  },
                                                                   (
-                                                                    λ w m h. record { word = r_again 0x33 5 0x0 w m h.0 h.1 h.2; formed = r_ranges w },
+                                                                    λ w m h. record {
+                                                                      word = r_again 0x33 5 0x0 w m h.0 h.1 h.2;
+                                                                      formed = r_ranges w;
+                                                                    },
                                                                     (
-                                                                      λ w m h. record { word = r_again 0x33 5 0x20 w m h.0 h.1 h.2; formed = r_ranges w },
+                                                                      λ w m h. record {
+                                                                        word = r_again 0x33 5 0x20 w m h.0 h.1 h.2;
+                                                                        formed = r_ranges w;
+                                                                      },
                                                                       (
-                                                                        λ w m h. record { word = r_again 0x33 6 0x0 w m h.0 h.1 h.2; formed = r_ranges w },
+                                                                        λ w m h. record {
+                                                                          word = r_again 0x33 6 0x0 w m h.0 h.1 h.2;
+                                                                          formed = r_ranges w;
+                                                                        },
                                                                         (
-                                                                          λ w m h. record { word = r_again 0x33 7 0x0 w m h.0 h.1 h.2; formed = r_ranges w },
+                                                                          λ w m h. record {
+                                                                            word = r_again 0x33 7 0x0 w m h.0 h.1
+                                                                                h.2;
+                                                                            formed = r_ranges w;
+                                                                          },
                                                                           (
-                                                                            λ w m h. record { word = omega arith; formed = omega arith },
+                                                                            λ w m h. record {
+                                                                              word = omega arith;
+                                                                              formed =
+                                                                                  omega arith;
+                                                                            },
                                                                             (
-                                                                              λ w m h. record { word = omega arith; formed = tt },
+                                                                              λ w m h. record
+                                                                                  { word = omega arith; formed = tt },
                                                                               (
-                                                                                λ w m h. record { word = omega arith; formed = tt },
+                                                                                λ w m h. record
+                                                                                    { word = omega arith; formed = tt },
                                                                                 (
-                                                                                  λ w m h. record { word = r_again 0x33 0 0x1 w m h.0 h.1 h.2; formed = r_ranges w },
+                                                                                  λ w m h. record {
+                                                                                    word = r_again 0x33 0 0x1 w m
+                                                                                        h.0 h.1 h.2;
+                                                                                    formed =
+                                                                                        r_ranges w;
+                                                                                  },
                                                                                   (
-                                                                                    λ w m h. record { word = r_again 0x33 1 0x1 w m h.0 h.1 h.2; formed = r_ranges w },
+                                                                                    λ w m h. record {
+                                                                                      word = r_again 0x33 1 0x1 w m
+                                                                                          h.0 h.1 h.2;
+                                                                                      formed =
+                                                                                          r_ranges w;
+                                                                                    },
                                                                                     (
-                                                                                      λ w m h. record { word = r_again 0x33 2 0x1 w m h.0 h.1 h.2; formed = r_ranges w },
+                                                                                      λ w m h. record {
+                                                                                        word = r_again 0x33 2 0x1 w
+                                                                                            m h.0 h.1 h.2;
+                                                                                        formed =
+                                                                                            r_ranges w;
+                                                                                      },
                                                                                       (
-                                                                                        λ w m h. record { word = r_again 0x33 3 0x1 w m h.0 h.1 h.2; formed = r_ranges w },
+                                                                                        λ w m h. record {
+                                                                                          word = r_again 0x33 3 0x1
+                                                                                              w m h.0 h.1 h.2;
+                                                                                          formed =
+                                                                                              r_ranges w;
+                                                                                        },
                                                                                         (
-                                                                                          λ w m h. record { word = r_again 0x33 4 0x1 w m h.0 h.1 h.2; formed = r_ranges w },
+                                                                                          λ w m h. record {
+                                                                                            word = r_again 0x33 4
+                                                                                                0x1 w m h.0 h.1 h.2;
+                                                                                            formed = r_ranges w;
+                                                                                          },
                                                                                           (
-                                                                                            λ w m h. record { word = r_again 0x33 5 0x1 w m h.0 h.1 h.2; formed = r_ranges w },
+                                                                                            λ w m h. record {
+                                                                                              word = r_again 0x33 5
+                                                                                                  0x1 w m h.0 h.1 h.2;
+                                                                                              formed = r_ranges w;
+                                                                                            },
                                                                                             (
-                                                                                              λ w m h. record { word = r_again 0x33 6 0x1 w m h.0 h.1 h.2; formed = r_ranges w },
+                                                                                              λ w m h. record {
+                                                                                                word = r_again 0x33
+                                                                                                    6 0x1 w m
+                                                                                                    h.0 h.1 h.2;
+                                                                                                formed = r_ranges w;
+                                                                                              },
                                                                                               (
-                                                                                                λ w m h. record { word = r_again 0x33 7 0x1 w m h.0 h.1 h.2; formed = r_ranges w },
+                                                                                                λ w m h. record {
+                                                                                                  word = r_again
+                                                                                                      0x33 7 0x1 w m h.0
+                                                                                                      h.1 h.2;
+                                                                                                  formed =
+                                                                                                      r_ranges w;
+                                                                                                },
                                                                                                 tt,
                                                                                               ),
                                                                                             ),

@@ -1,6 +1,8 @@
 -- Rows whose fixed bits differ share no word, so the row that a word fits is the one that is read.
-use Rattle.std.proofs.Common.{◌≡◌, ℕ, ◌+◌, ◌%◌, ◌<◌, ◌↔◌, zero, suc, min, length, Bool, true, false, List, [], ◌∷◌, refl, sym, arith}
-use Rattle.std.specs.Prelude.{◌==◌, ◌&&◌, not, if◌then◌else◌, bit_and, bit_xor, Option, None, Some, All, AllPairs, slice_index_or}
+use Rattle.std.proofs.Common.{◌≡◌, ℕ, ◌+◌, ◌%◌, ◌<◌, ◌↔◌, zero, suc, min, length, Bool, true, false, List, [], ◌∷◌}
+use Rattle.std.proofs.Common.{refl, sym, arith}
+use Rattle.std.specs.Prelude.{◌==◌, ◌&&◌, not, if◌then◌else◌, bit_and, bit_xor, Option, None, Some, All, AllPairs}
+use Rattle.std.specs.Prelude.{slice_index_or}
 use Rattle.std.specs.Int.{bit_at}
 use Rattle.std.proofs.lemmas.Bool.{eq-eqb}
 use Rattle.std.proofs.lemmas.Bool.Decides.{nat_tests}
@@ -13,7 +15,8 @@ use Rattle.rv_isa.specs.Table.{mask_of, match_of, Row, Fits, SharesNoWord, table
 -- the rows fix a bit in common, and differently
 abbrev pub differ : Row → Row → Bool
 differ row other =
-    not (bit_and (bit_and (mask_of row.shape) (mask_of other.shape)) (bit_xor (match_of row.shape) (match_of other.shape)) == 0)
+    not (bit_and (bit_and (mask_of row.shape) (mask_of other.shape))
+    (bit_xor (match_of row.shape) (match_of other.shape)) == 0)
 
 abbrev pub differ_from_all : Row → List Row → Bool
 differ_from_all row [] = true
@@ -33,7 +36,8 @@ same_bits w m n =
     (λ i. simp (bit_at_and, bit_at_xor, bit_at-zero)
     (one_bit (bit_at w i) (bit_at m i) (bit_at n i) (bit_at-lt w i) (bit_at-lt m i) (bit_at-lt n i)))
 
-apart_by : (w m n a b : ℕ) → not (bit_and (bit_and m n) (bit_xor a b) == 0) ≡ true → bit_and w m ≡ a → bit_and w n ≡ b → ⊥
+apart_by : (w m n a b : ℕ) → not (bit_and (bit_and m n) (bit_xor a b) == 0) ≡ true → bit_and w m ≡ a → bit_and w n ≡ b
+    → ⊥
 apart_by w m n a b d e f =
     let same : bit_and (bit_and m n) (bit_xor a b) ≡ 0 = rw (sym e, sym f) (same_bits w m n) in
     grind (arith, nat_tests)
@@ -45,12 +49,14 @@ shares_none row other d word here there =
 shares_none_of : (row : Row) (rows : List Row) → differ_from_all row rows ≡ true → All (SharesNoWord row) rows
 shares_none_of row [] d = λ k e m. absurd (omega arith)
 shares_none_of row (other ∷ rows) d =
-    All-cons (SharesNoWord row) other rows (shares_none row other (grind (arith, nat_tests))) (shares_none_of row rows (grind (arith, nat_tests)))
+    All-cons (SharesNoWord row) other rows (shares_none row other (grind (arith, nat_tests)))
+    (shares_none_of row rows (grind (arith, nat_tests)))
 
 pub all_share_none : (rows : List Row) → all_differ rows ≡ true → AllPairs SharesNoWord rows
 all_share_none [] d = λ i j e m n. absurd (omega arith)
 all_share_none (row ∷ rows) d =
-    AllPairs-cons SharesNoWord row rows (shares_none_of row rows (grind (arith, nat_tests))) (all_share_none rows (grind (arith, nat_tests)))
+    AllPairs-cons SharesNoWord row rows (shares_none_of row rows (grind (arith, nat_tests)))
+    (all_share_none rows (grind (arith, nat_tests)))
 
 pub table-shares_none : AllPairs SharesNoWord table
 unfolding table
@@ -78,7 +84,8 @@ pub decoded-fits : (w : ℕ) → All (λ row. Fits row w → decoded w ≡ Some 
 unfolding decoded
 decoded-fits w = λ k d m h. read_by-fits table w table-shares_none k d m h
 
-passed_over : (b : Bool) (i : Instr) (rest : Option Instr) → (if b then Some i else rest) ≡ None → (b ≡ false) × (rest ≡ None)
+passed_over : (b : Bool) (i : Instr) (rest : Option Instr) → (if b then Some i else rest) ≡ None → (b ≡ false)
+    × (rest ≡ None)
 passed_over true i rest e = absurd (cc)
 passed_over false i rest e = (refl, e)
 

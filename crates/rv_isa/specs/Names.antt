@@ -1,7 +1,8 @@
 -- The registers that an instruction names in its fields.
 use Rattle.std.specs.Prelude.{ℕ, ◌==◌, ◌||◌, Bool, false}
 use Rattle.rv_isa.specs.declared.Instr.{Instr}
-use Rattle.rv_isa.specs.declared.Instr.TheVariants.{Lui, Auipc, Jal, Jalr, Branch, Load, Store, OpImm, Reg, Fence, Ecall, Ebreak}
+use Rattle.rv_isa.specs.declared.Instr.TheVariants.{Lui, Auipc, Jal, Jalr, Branch, Load, Store, OpImm, Reg, Fence}
+use Rattle.rv_isa.specs.declared.Instr.TheVariants.{Ecall, Ebreak}
 
 -- rd, rs1 or rs2 of the instruction is this register; the amount of a shift is none of them
 abbrev pub names_register : Instr → ℕ → Bool

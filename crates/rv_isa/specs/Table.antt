@@ -2,13 +2,15 @@
 -- tables "RV32I Base Instruction Set" and "RV32M Standard Extension").
 use Rattle.std.specs.Prelude.{◌≡◌, ℕ, ◌+◌, ◌*◌, ◌^◌, ◌==◌, if◌then◌else◌, bit_and, List, [], ◌∷◌, Option, None, Some}
 use Rattle.rv_isa.specs.declared.Op.{Op}
-use Rattle.rv_isa.specs.declared.Op.TheVariants.{Add, Sub, Sll, Slt, Sltu, Xor, Srl, Sra, Or, And, Mul, Mulh, Mulhsu, Mulhu, Div, Divu, Rem, Remu}
+use Rattle.rv_isa.specs.declared.Op.TheVariants.{Add, Sub, Sll, Slt, Sltu, Xor, Srl, Sra, Or, And, Mul, Mulh, Mulhsu}
+use Rattle.rv_isa.specs.declared.Op.TheVariants.{Mulhu, Div, Divu, Rem, Remu}
 use Rattle.rv_isa.specs.declared.Cond.{Cond}
 use Rattle.rv_isa.specs.declared.Cond.TheVariants.{Eq, Ne, Lt, Ge, Ltu, Geu}
 use Rattle.rv_isa.specs.declared.Width.{Width}
 use Rattle.rv_isa.specs.declared.Width.TheVariants.{Byte, Half, Word, ByteU, HalfU}
 use Rattle.rv_isa.specs.declared.Instr.{Instr}
-use Rattle.rv_isa.specs.declared.Instr.TheVariants.{Lui, Auipc, Jal, Jalr, Branch, Load, Store, OpImm, Reg, Fence, Ecall, Ebreak}
+use Rattle.rv_isa.specs.declared.Instr.TheVariants.{Lui, Auipc, Jal, Jalr, Branch, Load, Store, OpImm, Reg, Fence}
+use Rattle.rv_isa.specs.declared.Instr.TheVariants.{Ecall, Ebreak}
 use Rattle.rv_isa.specs.Words.{rd, rs1, rs2, imm_i, imm_s, imm_b, imm_u, imm_j, rest_of}
 
 -- which fields of a word a row fixes: the opcode; also funct3; also funct7; or every bit

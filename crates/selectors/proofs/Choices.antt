@@ -1,6 +1,10 @@
 -- The least of the candidates, the next site, and the set of a member.
-use Rattle.std.proofs.Common.{◌≡◌, ◌≢◌, ◌⊎◌, ℕ, ◌+◌, ◌<◌, ◌≤◌, ◌==◌, ◌&&◌, ◌||◌, not, Bool, true, false, cond, List, [], ◌∷◌, length, take, get_or, refl, sym, ◌∙◌, ap, subst, inl, inr, arith, Option, None, Some, count_by, insert, nat_lt}
-use Rattle.std.proofs.lemmas.Bool.{cases_Bool, cases_eq, cases_order, eq-eqb, ne_eqb, eqb-true, lt-ltb, ltb-true, or_left, or_right, or_cases, and_parts, and_cases, and_from, both_ways, not-true, not-false, ltb-false}
+use Rattle.std.proofs.Common.{◌≡◌, ◌≢◌, ◌⊎◌, ℕ, ◌+◌, ◌<◌, ◌≤◌, ◌==◌, ◌&&◌, ◌||◌, not, Bool, true, false, cond, List, []}
+use Rattle.std.proofs.Common.{◌∷◌, length, take, get_or, refl, sym, ◌∙◌, ap, subst, inl, inr, arith, Option, None, Some}
+use Rattle.std.proofs.Common.{count_by, insert, nat_lt}
+use Rattle.std.proofs.lemmas.Bool.{cases_Bool, cases_eq, cases_order, eq-eqb, ne_eqb, eqb-true, lt-ltb, ltb-true}
+use Rattle.std.proofs.lemmas.Bool.{or_left, or_right, or_cases, and_parts, and_cases, and_from, both_ways, not-true}
+use Rattle.std.proofs.lemmas.Bool.{not-false, ltb-false}
 use Rattle.std.proofs.lemmas.List.{take_all, get_or_default, nil_from_length}
 use Rattle.std.proofs.lemmas.List.Folds.{list_any_more, list_any_kept, Any-from_list_any}
 use Rattle.std.proofs.lemmas.List.Sorted.{list_any-IsPermutation, IsPermutation-insert}

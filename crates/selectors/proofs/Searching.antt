@@ -1,12 +1,16 @@
 -- Sites in sorted sets, the contexts outside, and counts of holders.
-use Rattle.std.proofs.Common.{◌≡◌, ℕ, zero, suc, ◌+◌, ◌^◌, ◌<◌, ◌≤◌, ◌==◌, Bool, true, false, cond, List, [], ◌∷◌, ◌++◌, length, length-append, append-nil, take, get_or, refl, sym, ◌∙◌, ap, inl, inr, arith, All, Result, Ok, Err, MatchResult, is_ok, filter, replicate}
+use Rattle.std.proofs.Common.{◌≡◌, ℕ, zero, suc, ◌+◌, ◌^◌, ◌<◌, ◌≤◌, ◌==◌, Bool, true, false, cond, List, [], ◌∷◌, ◌++◌}
+use Rattle.std.proofs.Common.{length, length-append, append-nil, take, get_or, refl, sym, ◌∙◌, ap, inl, inr, arith, All}
+use Rattle.std.proofs.Common.{Result, Ok, Err, MatchResult, is_ok, filter, replicate}
 use mir.Val.{bool_byte}
 use Rattle.std.specs.List.{range_with_len}
 use Rattle.std.specs.List.Sorted.{IsPermutation}
 use Rattle.std.proofs.Math.ListN.{get_or-eq_default}
 use Rattle.std.proofs.Math.Seq.{get_or-append_seam}
-use Rattle.std.proofs.lemmas.Bool.{cases_Bool, cases_eq, cases_lt, cases_order, eq-eqb, ne_eqb, or_left, or_right, lt-ltb, le-ltb}
-use Rattle.std.proofs.lemmas.List.{get_or_default, get_or_append_left, get_or_past, map-id, length-take, length-replicate, get_or-replicate}
+use Rattle.std.proofs.lemmas.Bool.{cases_Bool, cases_eq, cases_lt, cases_order, eq-eqb, ne_eqb, or_left, or_right}
+use Rattle.std.proofs.lemmas.Bool.{lt-ltb, le-ltb}
+use Rattle.std.proofs.lemmas.List.{get_or_default, get_or_append_left, get_or_past, map-id, length-take}
+use Rattle.std.proofs.lemmas.List.{length-replicate, get_or-replicate}
 use Rattle.std.proofs.lemmas.List.Sums.{count_by_more_yes, count_by_more_no, count_by-le-length}
 use Rattle.std.proofs.lemmas.List.FromFn.{map-range_with_len_more}
 use Rattle.std.proofs.lemmas.List.Folds.{list_any_none}

@@ -1,5 +1,6 @@
 -- What the parts of the selection compute: sorted sites, counts of holders, and the least of some candidates.
-use Rattle.std.specs.Prelude.{◌≡◌, ◌⊎◌, ℕ, ◌+◌, ◌<◌, ◌≤◌, Bool, true, false, List, length, All, count_by, take, slice_index, cond, nat_lt, if◌then◌else◌, ◌==◌, ◌&&◌, ◌||◌, not, Option, None, Some}
+use Rattle.std.specs.Prelude.{◌≡◌, ◌⊎◌, ℕ, ◌+◌, ◌<◌, ◌≤◌, Bool, true, false, List, length, All, count_by, take}
+use Rattle.std.specs.Prelude.{slice_index, cond, nat_lt, if◌then◌else◌, ◌==◌, ◌&&◌, ◌||◌, not, Option, None, Some}
 use Rattle.selectors.specs.declared.next_site.Candidate.{Candidate}
 use Rattle.selectors.specs.Sets.{is_in, holds_in, Tells, Adds}
 

@@ -1,5 +1,6 @@
 -- The rows and sites that members give, one after the other.
-use Rattle.std.specs.Prelude.{◌≡◌, ℕ, ◌+◌, ◌*◌, ◌<◌, ◌==◌, ◌&&◌, not, nat_lt, nat_le, Bool, List, [], ◌∷◌, ◌++◌, length, filter, if◌then◌else◌, cond, slice_index_or}
+use Rattle.std.specs.Prelude.{◌≡◌, ℕ, ◌+◌, ◌*◌, ◌<◌, ◌==◌, ◌&&◌, not, nat_lt, nat_le, Bool, List, [], ◌∷◌, ◌++◌, length}
+use Rattle.std.specs.Prelude.{filter, if◌then◌else◌, cond, slice_index_or}
 use Rattle.std.specs.List.{list_any}
 use Rattle.plan_core.specs.declared.types.Row.{Row}
 use Rattle.plan_core.specs.declared.types.PlanLine.{PlanLine}

@@ -1,5 +1,6 @@
 -- Sets of sites that tell a context from others.
-use Rattle.std.specs.Prelude.{◌≡◌, ◌≢◌, ◌⊎◌, ℕ, ◌+◌, ◌<◌, ◌==◌, not, Bool, true, false, List, [], length, filter, count_by, take, insert, nat_lt, slice_index_or}
+use Rattle.std.specs.Prelude.{◌≡◌, ◌≢◌, ◌⊎◌, ℕ, ◌+◌, ◌<◌, ◌==◌, not, Bool, true, false, List, [], length, filter}
+use Rattle.std.specs.Prelude.{count_by, take, insert, nat_lt, slice_index_or}
 use Rattle.std.specs.List.{list_any, list_all, range_with_len}
 
 -- a number is in a list

@@ -1,5 +1,6 @@
 -- System calls on both machines.
-use Rattle.std.proofs.Common.{◌≡◌, ℕ, ◌%◌, ◌^◌, ◌<◌, ◌≤◌, List, [], Bool, true, false, cond, length, refl, sym, ◌∙◌, subst, arith, take, drop}
+use Rattle.std.proofs.Common.{◌≡◌, ℕ, ◌%◌, ◌^◌, ◌<◌, ◌≤◌, List, [], Bool, true, false, cond, length, refl, sym, ◌∙◌}
+use Rattle.std.proofs.Common.{subst, arith, take, drop}
 use Rattle.std.specs.List.{All}
 use Rattle.std.proofs.lemmas.List.Elements.{All-take}
 use Rattle.std.specs.Prelude.{Option, Some, None, nat_eq, ◌||◌}
@@ -24,7 +25,8 @@ use Rattle.sym_cells.specs.Buffers.{is_within, taken, filled}
 use Rattle.sym_cells.specs.Region.{FillsAlike}
 use Rattle.sym_spec.specs.Plain.{is_plain, is_plain_store}
 use Rattle.sym_spec.specs.SymMachine.{SymMachine, value_of, ends, faults}
-use Rattle.sym_spec.specs.SymCalls.{SymTurn, quiet, answers, word_in, pointer_in, buffer_in, reads_into, reads_to, writes_known, writes_from, reads, writes, calls_with, calls_by, calls}
+use Rattle.sym_spec.specs.SymCalls.{SymTurn, quiet, answers, word_in, pointer_in, buffer_in, reads_into, reads_to}
+use Rattle.sym_spec.specs.SymCalls.{writes_known, writes_from, reads, writes, calls_with, calls_by, calls}
 use Rattle.match_spec.specs.Stands.{Places, places_of, back_of, Holds}
 use Rattle.match_spec.specs.Matches.{InStep}
 use Rattle.match_spec.specs.Keeps.{IsNoFault}

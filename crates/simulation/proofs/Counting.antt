@@ -1,5 +1,6 @@
 -- A grant makes the list of addresses one longer, and a release the living blocks one fewer.
-use Rattle.std.proofs.Common.{◌≡◌, ℕ, ◌+◌, ◌*◌, List, [], ◌∷◌, Bool, true, false, cond, length, map, replicate, refl, ap, sym, ◌∙◌, subst, arith, get_or}
+use Rattle.std.proofs.Common.{◌≡◌, ℕ, ◌+◌, ◌*◌, List, [], ◌∷◌, Bool, true, false, cond, length, map, replicate, refl}
+use Rattle.std.proofs.Common.{ap, sym, ◌∙◌, subst, arith, get_or}
 use Rattle.std.specs.Prelude.{Option, Some, None, is_some, option_map, slice_get, slice_set, ◌==◌, ◌&&◌}
 use Rattle.std.proofs.lemmas.List.{length-append}
 use Rattle.std.specs.List.{sum_by}
@@ -9,7 +10,8 @@ use Rattle.std.proofs.Math.Seq.{map-set_same}
 use Rattle.rv_isa.specs.declared.Instr.{Instr}
 use Rattle.rv_isa.specs.Table.{decoded}
 use Rattle.elf_spec.specs.declared.HeapName.{HeapName}
-use Rattle.elf_spec.specs.declared.HeapName.TheVariants.{Malloc, Calloc, Realloc, Free, MallocR, CallocR, ReallocR, FreeR}
+use Rattle.elf_spec.specs.declared.HeapName.TheVariants.{Malloc, Calloc, Realloc, Free, MallocR, CallocR, ReallocR}
+use Rattle.elf_spec.specs.declared.HeapName.TheVariants.{FreeR}
 use Rattle.elf_spec.specs.Code.{code_word}
 use Rattle.plan_core.specs.declared.types.Plan.{Plan}
 use Rattle.place_spec.specs.Layout.{granules_for, address_of}
@@ -23,10 +25,13 @@ use Rattle.sym_value.specs.declared.Value.{Value}
 use Rattle.sym_value.specs.declared.Value.TheVariants.{Num, Ptr, Ret, Mix, Part, Unset}
 use Rattle.sym_value.specs.Places.{lives_in, is_living}
 use Rattle.sym_cells.specs.Cells.{zero_cell}
-use Rattle.sym_cells.specs.Memory.{Block, Memory, copied, died, dropped, granted, life_of, overlaid, overlaid_block, set_block}
+use Rattle.sym_cells.specs.Memory.{Block, Memory, copied, died, dropped, granted, life_of, overlaid, overlaid_block}
+use Rattle.sym_cells.specs.Memory.{set_block}
 use Rattle.sym_spec.specs.declared.StepNote.{StepNote}
 use Rattle.sym_spec.specs.SymMachine.{SymMachine, lives_of, value_of, faults}
-use Rattle.sym_spec.specs.HeapActions.{Outcome, Action, answered, answers, callocs, frees, granule_in, grants, grants_placed, base, is_front, mallocs, moves, moves_placed, next_name, outcome, reallocs, releases, returns, returns_with, serves}
+use Rattle.sym_spec.specs.HeapActions.{Outcome, Action, answered, answers, callocs, frees, granule_in, grants}
+use Rattle.sym_spec.specs.HeapActions.{grants_placed, base, is_front, mallocs, moves, moves_placed, next_name, outcome}
+use Rattle.sym_spec.specs.HeapActions.{reallocs, releases, returns, returns_with, serves}
 use Rattle.sym_spec.specs.SymTurns.{Here, Nothing, Heap, Pair, Code, here, runs_here, turn, turn_of}
 use Rattle.sym_spec.specs.SymNotes.{empty_note, ending_note, heap_note, here_note, instr_note, is_fault, note}
 use Rattle.match_spec.specs.Keeps.{IsNoFault}

@@ -1,5 +1,6 @@
 -- A request for a block that its words served: the block is granted, or the request refused.
-use Rattle.std.proofs.Common.{◌≡◌, ◌≢◌, ◌⊎◌, ℕ, ◌+◌, ◌*◌, ◌%◌, ◌^◌, ◌<◌, ◌≤◌, List, [], ◌∷◌, ◌++◌, Bool, true, false, cond, length, map, replicate, refl, ap, sym, ◌∙◌, subst, arith, inl, inr, get_or}
+use Rattle.std.proofs.Common.{◌≡◌, ◌≢◌, ◌⊎◌, ℕ, ◌+◌, ◌*◌, ◌%◌, ◌^◌, ◌<◌, ◌≤◌, List, [], ◌∷◌, ◌++◌, Bool, true, false}
+use Rattle.std.proofs.Common.{cond, length, map, replicate, refl, ap, sym, ◌∙◌, subst, arith, inl, inr, get_or}
 use Rattle.std.specs.Prelude.{Option, Some, None, Any, nat_lt, slice_get, slice_index}
 use Rattle.std.proofs.lemmas.List.{length-append, length-map, length-replicate}
 use Rattle.std.proofs.lemmas.Option.{slice_get_within}
@@ -37,7 +38,8 @@ use Rattle.simulation.specs.HeapGround.{HeapGround}
 use Rattle.simulation.specs.Actions.{Acts}
 use Rattle.simulation.proofs.AfterRequest.{AreApart, KeptOutside, plain_kept, memory_after}
 use Rattle.simulation.proofs.KeptRegisters.{kept_registers, longer_registers}
-use Rattle.simulation.proofs.OneMore.{last_or_old, still_there, last_there, index_still, index_last, life_there, new_life, granted_lives, all_of, one_of, any_of}
+use Rattle.simulation.proofs.OneMore.{last_or_old, still_there, last_there, index_still, index_last, life_there}
+use Rattle.simulation.proofs.OneMore.{new_life, granted_lives, all_of, one_of, any_of}
 use Rattle.simulation.proofs.Operations.{holds_num}
 use Rattle.simulation.proofs.Ready.{AtWords}
 use Rattle.simulation.proofs.Serving.{registers_kept, outside_kept, BlocksKept, LivingIn, living, region_kept}

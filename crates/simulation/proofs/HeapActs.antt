@@ -1,10 +1,12 @@
 -- The eight heap functions: the words at the entry of each do its action.
-use Rattle.std.proofs.Common.{◌≡◌, ◌≢◌, ℕ, zero, suc, ◌+◌, ◌*◌, ◌%◌, ◌^◌, ◌<◌, ◌≤◌, ◌==◌, ◌&&◌, List, [], ◌∷◌, Bool, true, false, cond, map, refl, ap, sym, ◌∙◌, subst, arith, inl, inr}
+use Rattle.std.proofs.Common.{◌≡◌, ◌≢◌, ℕ, zero, suc, ◌+◌, ◌*◌, ◌%◌, ◌^◌, ◌<◌, ◌≤◌, ◌==◌, ◌&&◌, List, [], ◌∷◌, Bool}
+use Rattle.std.proofs.Common.{true, false, cond, map, refl, ap, sym, ◌∙◌, subst, arith, inl, inr}
 use Rattle.std.specs.Prelude.{Option, Some, None, slice_get, slice_index}
 use Rattle.std.proofs.lemmas.Bool.{and_parts, eqb-true}
 use Rattle.std.proofs.lemmas.Bool.Decides.{nat_tests}
 use Rattle.elf_spec.specs.declared.HeapName.{HeapName}
-use Rattle.elf_spec.specs.declared.HeapName.TheVariants.{Malloc, Calloc, Realloc, Free, MallocR, CallocR, ReallocR, FreeR}
+use Rattle.elf_spec.specs.declared.HeapName.TheVariants.{Malloc, Calloc, Realloc, Free, MallocR, CallocR, ReallocR}
+use Rattle.elf_spec.specs.declared.HeapName.TheVariants.{FreeR}
 use Rattle.plan_core.specs.declared.types.Plan.{Plan}
 use Rattle.site_spec.specs.Places.{data_at}
 use Rattle.machine_spec.specs.declared.Ending.TheVariants.{Running}
@@ -21,7 +23,8 @@ use Rattle.sym_cells.specs.Memory.{life_of}
 use Rattle.sym_value.specs.declared.Value.{Value}
 use Rattle.sym_value.specs.declared.Value.TheVariants.{Num, Ptr, Ret, Mix, Part, Unset}
 use Rattle.sym_spec.specs.SymMachine.{SymMachine, value_of}
-use Rattle.sym_spec.specs.HeapActions.{base, Outcome, outcome, answers, answered, grants, moves, releases, granule_in, is_front, mallocs, callocs, reallocs, frees}
+use Rattle.sym_spec.specs.HeapActions.{base, Outcome, outcome, answers, answered, grants, moves, releases, granule_in}
+use Rattle.sym_spec.specs.HeapActions.{is_front, mallocs, callocs, reallocs, frees}
 use Rattle.match_spec.specs.Stands.{places_of, Holds}
 use Rattle.match_spec.specs.Parts.{IsInside}
 use Rattle.match_spec.specs.Matches.{InStep}

@@ -1,5 +1,6 @@
 -- The part of a match that speaks of the heap: at the start, and that stores keep it.
-use Rattle.std.proofs.Common.{◌≡◌, ◌⊎◌, ℕ, ◌+◌, ◌%◌, ◌<◌, ◌≤◌, List, [], length, map, refl, ap, sym, subst, arith, inl, inr}
+use Rattle.std.proofs.Common.{◌≡◌, ◌⊎◌, ℕ, ◌+◌, ◌%◌, ◌<◌, ◌≤◌, List, [], length, map, refl, ap, sym, subst, arith, inl}
+use Rattle.std.proofs.Common.{inr}
 use Rattle.std.specs.Prelude.{unwrap_or, slice_index}
 use Rattle.rv_isa.specs.declared.Width.TheVariants.{Word}
 use Rattle.plan_core.specs.declared.types.Plan.{Plan}

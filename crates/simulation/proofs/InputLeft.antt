@@ -15,7 +15,8 @@ use Rattle.sym_cells.specs.Memory.{Memory}
 use Rattle.sym_cells.specs.Buffers.{is_within, taken, filled}
 use Rattle.sym_spec.specs.Plain.{is_plain, is_plain_store}
 use Rattle.sym_spec.specs.SymMachine.{SymMachine, value_of}
-use Rattle.sym_spec.specs.SymCalls.{SymTurn, buffer_in, calls, calls_by, calls_with, reads, reads_into, reads_to, word_in, writes, writes_from, writes_known}
+use Rattle.sym_spec.specs.SymCalls.{SymTurn, buffer_in, calls, calls_by, calls_with, reads, reads_into, reads_to}
+use Rattle.sym_spec.specs.SymCalls.{word_in, writes, writes_from, writes_known}
 use Rattle.sym_spec.specs.SymTurns.{Here, Nothing, Heap, Pair, Code, executes, here, runs_here, turn, turn_of}
 
 abbrev AreBytes : List ℕ → Type 0

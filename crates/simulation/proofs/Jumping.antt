@@ -1,6 +1,7 @@
 -- Jumps on both machines from an address that no site line names, and jumps back to a return address
 -- that is no chosen site's.
-use Rattle.std.proofs.Common.{◌≡◌, ◌≢◌, ℕ, ◌+◌, ◌*◌, ◌/◌, ◌%◌, ◌<◌, ◌≤◌, List, Bool, true, false, cond, refl, sym, ◌∙◌, arith}
+use Rattle.std.proofs.Common.{◌≡◌, ◌≢◌, ℕ, ◌+◌, ◌*◌, ◌/◌, ◌%◌, ◌<◌, ◌≤◌, List, Bool, true, false, cond, refl, sym, ◌∙◌}
+use Rattle.std.proofs.Common.{arith}
 use Rattle.std.specs.Prelude.{Option, Some, None, is_some, nat_eq, slice_set}
 use Rattle.std.proofs.lemmas.Bool.Decides.{nat_tests}
 use Rattle.elf_spec.specs.Code.{code_word}
@@ -12,7 +13,8 @@ use Rattle.machine_spec.specs.Start.{behind}
 use Rattle.flat_spec.specs.Machine as flat
 use Rattle.flat_spec.specs.Machine.{Machine, register}
 use Rattle.sym_value.specs.declared.Value.TheVariants.{Num, Ret}
-use Rattle.sym_spec.specs.SymMachine.{SymMachine, faults, links, calls_from, goes_to, jumps, goes_back, line_at, set_bit, back_index}
+use Rattle.sym_spec.specs.SymMachine.{SymMachine, faults, links, calls_from, goes_to, jumps, goes_back, line_at}
+use Rattle.sym_spec.specs.SymMachine.{set_bit, back_index}
 use Rattle.sym_value.specs.Standing.{IsReturn}
 use Rattle.match_spec.specs.Stands.{back_of, places_of}
 use Rattle.match_spec.specs.Parts.{InRegisters}

@@ -1,13 +1,16 @@
 -- What a turn does to the blocks of symbol memory: a heap function grants and releases what its note says,
 -- and any other turn keeps all addresses and lives.
-use Rattle.std.proofs.Common.{◌≡◌, ℕ, ◌+◌, ◌*◌, ◌/◌, List, [], ◌∷◌, Bool, true, false, cond, map, take, refl, ap, sym, ◌∙◌}
-use Rattle.std.specs.Prelude.{Option, Some, None, is_some, option_map, option_and_then, slice_get, slice_set, ◌==◌, ◌&&◌, ◌||◌}
+use Rattle.std.proofs.Common.{◌≡◌, ℕ, ◌+◌, ◌*◌, ◌/◌, List, [], ◌∷◌, Bool, true, false, cond, map, take, refl, ap, sym}
+use Rattle.std.proofs.Common.{◌∙◌}
+use Rattle.std.specs.Prelude.{Option, Some, None, is_some, option_map, option_and_then, slice_get, slice_set, ◌==◌}
+use Rattle.std.specs.Prelude.{◌&&◌, ◌||◌}
 use Rattle.std.specs.List.{sum_by}
 use Rattle.std.proofs.lemmas.List.Sums.{sum_by-cons}
 use Rattle.std.proofs.lemmas.Option.{get_or_from_slice_get}
 use Rattle.std.proofs.Math.Seq.{map-set_same}
 use Rattle.rv_isa.specs.declared.Instr.{Instr}
-use Rattle.rv_isa.specs.declared.Instr.TheVariants.{Lui, Auipc, Jal, Jalr, Branch, Load, Store, OpImm, Reg, Fence, Ecall, Ebreak}
+use Rattle.rv_isa.specs.declared.Instr.TheVariants.{Lui, Auipc, Jal, Jalr, Branch, Load, Store, OpImm, Reg, Fence}
+use Rattle.rv_isa.specs.declared.Instr.TheVariants.{Ecall, Ebreak}
 use Rattle.rv_isa.specs.declared.Width.{Width}
 use Rattle.rv_isa.specs.declared.Width.TheVariants.{ByteU}
 use Rattle.rv_isa.specs.Addresses.{plus}
@@ -24,7 +27,8 @@ use Rattle.sym_cells.specs.Buffers.{filled, is_within, stored_each, next_byte, t
 use Rattle.sym_cells.proofs.Lists.{length-store}
 use Rattle.sym_spec.specs.Plain.{is_plain, is_plain_store}
 use Rattle.sym_spec.specs.SymMachine.{SymMachine, lives_of, value_of, jumps, links, loads, stores}
-use Rattle.sym_spec.specs.SymCalls.{SymTurn, buffer_in, calls, calls_by, calls_with, reads, reads_into, reads_to, word_in, writes, writes_from, writes_known}
+use Rattle.sym_spec.specs.SymCalls.{SymTurn, buffer_in, calls, calls_by, calls_with, reads, reads_into, reads_to}
+use Rattle.sym_spec.specs.SymCalls.{word_in, writes, writes_from, writes_known}
 use Rattle.sym_spec.specs.SymTurns.{acts, address_of, branches, executes, jumps_to}
 use Rattle.match_spec.specs.Steps.{living}
 

@@ -1,5 +1,6 @@
 -- Stretches of addresses that lie in one range, in memories of one shape.
-use Rattle.std.proofs.Common.{◌≡◌, ℕ, ◌<◌, ◌≤◌, List, [], ◌∷◌, Bool, true, false, cond, map, length, refl, ap, sym, ◌∙◌, subst, arith}
+use Rattle.std.proofs.Common.{◌≡◌, ℕ, ◌<◌, ◌≤◌, List, [], ◌∷◌, Bool, true, false, cond, map, length, refl, ap, sym, ◌∙◌}
+use Rattle.std.proofs.Common.{subst, arith}
 use Rattle.std.specs.Prelude.{Some, None}
 use Rattle.machine_spec.specs.Memory.{Range, Shape, shape_of, range_at, covers}
 use Rattle.heap_spec.specs.Service.{LiesIn}

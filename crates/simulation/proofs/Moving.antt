@@ -1,6 +1,8 @@
 -- A request to move a block that its words served: a new block has its first cells, and then it dies.
-use Rattle.std.proofs.Common.{◌≡◌, ◌≢◌, ◌⊎◌, ℕ, zero, suc, ◌+◌, ◌-◌, ◌*◌, ◌<◌, ◌≤◌, List, [], ◌∷◌, ◌++◌, true, length, map, replicate, refl, ap, sym, ◌∙◌, subst, arith, inl, inr}
-use Rattle.std.specs.Prelude.{Option, Some, None, option_map, min, nat_lt, drop, take, slice_get, slice_index, slice_set}
+use Rattle.std.proofs.Common.{◌≡◌, ◌≢◌, ◌⊎◌, ℕ, zero, suc, ◌+◌, ◌-◌, ◌*◌, ◌<◌, ◌≤◌, List, [], ◌∷◌, ◌++◌, true, length}
+use Rattle.std.proofs.Common.{map, replicate, refl, ap, sym, ◌∙◌, subst, arith, inl, inr}
+use Rattle.std.specs.Prelude.{Option, Some, None, option_map, min, nat_lt, drop, take, slice_get, slice_index}
+use Rattle.std.specs.Prelude.{slice_set}
 use Rattle.std.proofs.lemmas.List.{length-append, length-map, length-replicate, length-take, length-drop}
 use Rattle.std.proofs.lemmas.Option.{slice_get_within}
 use Rattle.elf_spec.specs.declared.HeapName.{HeapName}
@@ -33,12 +35,15 @@ use Rattle.simulation.specs.Ground.{Ground}
 use Rattle.simulation.specs.HeapGround.{HeapGround}
 use Rattle.simulation.specs.Actions.{Acts}
 use Rattle.simulation.proofs.AfterRequest.{AreApart, KeptOutside, plain_kept, memory_after}
-use Rattle.simulation.proofs.Granting.{nothing_acts, new_cells, granted_blocks, beside, blocks_with, apart_with, pointer_holds}
+use Rattle.simulation.proofs.Granting.{nothing_acts, new_cells, granted_blocks, beside, blocks_with, apart_with}
+use Rattle.simulation.proofs.Granting.{pointer_holds}
 use Rattle.simulation.proofs.KeptRegisters.{kept_registers, longer_registers}
-use Rattle.simulation.proofs.OneMore.{last_or_old, last_there, still_there, index_still, index_last, life_there, new_life, granted_lives, all_of}
+use Rattle.simulation.proofs.OneMore.{last_or_old, last_there, still_there, index_still, index_last, life_there}
+use Rattle.simulation.proofs.OneMore.{new_life, granted_lives, all_of}
 use Rattle.simulation.proofs.Operations.{holds_num}
 use Rattle.simulation.proofs.Ready.{AtWords}
-use Rattle.simulation.proofs.Releasing.{lives_without, dropped_lives, dropped_plain, dropped_others, other_granule, blocks_without, apart_without}
+use Rattle.simulation.proofs.Releasing.{lives_without, dropped_lives, dropped_plain, dropped_others, other_granule}
+use Rattle.simulation.proofs.Releasing.{blocks_without, apart_without}
 use Rattle.simulation.proofs.Serving.{registers_kept, outside_kept, BlocksKept, LivingIn, living, region_kept}
 use Rattle.site_stubs.specs.StubRuns.{state_of}
 

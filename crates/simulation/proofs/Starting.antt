@@ -1,5 +1,6 @@
 -- The memory at the start: the spans have each plain byte, as the new file's memory has it.
-use Rattle.std.proofs.Common.{◌≡◌, ℕ, zero, suc, ◌+◌, ◌-◌, ◌/◌, ◌%◌, ◌<◌, ◌≤◌, List, [], ◌∷◌, ◌++◌, Bool, true, false, ◌&&◌, ◌||◌, cond, length, filter, map, refl, ap, sym, ◌∙◌, subst, arith}
+use Rattle.std.proofs.Common.{◌≡◌, ℕ, zero, suc, ◌+◌, ◌-◌, ◌/◌, ◌%◌, ◌<◌, ◌≤◌, List, [], ◌∷◌, ◌++◌, Bool, true, false}
+use Rattle.std.proofs.Common.{◌&&◌, ◌||◌, cond, length, filter, map, refl, ap, sym, ◌∙◌, subst, arith}
 use Rattle.std.specs.Prelude.{Some, nat_le, nat_lt, slice_get}
 use Rattle.std.specs.List.{list_any}
 use Rattle.std.proofs.lemmas.Bool.{and_parts, leb-true, ltb-true, le-leb, lt-ltb}
@@ -15,7 +16,8 @@ use Rattle.sym_cells.specs.Cells.{Cell, Bytes, Mixed, cell_in, mark_in, mark_at}
 use Rattle.sym_cells.specs.Memory.{Block, Span, has, has_cell, cell_at, life_of}
 use Rattle.sym_cells.specs.Region.{MarkStands, Region}
 use Rattle.sym_spec.specs.Plain.{is_in, is_plain, is_plain_store, is_stack}
-use Rattle.sym_spec.specs.StartMemory.{mark_of, start_mark, start_cell, cells_from, span_over, segment_span, start_memory}
+use Rattle.sym_spec.specs.StartMemory.{mark_of, start_mark, start_cell, cells_from, span_over, segment_span}
+use Rattle.sym_spec.specs.StartMemory.{start_memory}
 use Rattle.match_spec.specs.Parts.{InMemory}
 use Rattle.simulation.specs.Ground.{MemoryGround}
 

@@ -1,12 +1,16 @@
 -- A turn of the symbol machine at each kind of place: at a chosen site, at a jump back, elsewhere.
-use Rattle.std.proofs.Common.{◌≡◌, ◌≢◌, ◌⊎◌, inl, inr, ℕ, ◌+◌, ◌*◌, ◌/◌, ◌%◌, ◌^◌, ◌<◌, ◌≤◌, List, Bool, true, false, cond, length, map, length-set, get_or-set_same, get_or-set_other, refl, ap, sym, ◌∙◌, subst, arith, get_or, append-nil}
-use Rattle.std.specs.Prelude.{Option, Some, None, is_some, IsSome, nat_eq, ◌&&◌, ◌||◌, slice_set, slice_get, slice_index, option_and_then, bit_or}
+use Rattle.std.proofs.Common.{◌≡◌, ◌≢◌, ◌⊎◌, inl, inr, ℕ, ◌+◌, ◌*◌, ◌/◌, ◌%◌, ◌^◌, ◌<◌, ◌≤◌, List, Bool, true, false}
+use Rattle.std.proofs.Common.{cond, length, map, length-set, get_or-set_same, get_or-set_other, refl, ap, sym, ◌∙◌}
+use Rattle.std.proofs.Common.{subst, arith, get_or, append-nil}
+use Rattle.std.specs.Prelude.{Option, Some, None, is_some, IsSome, nat_eq, ◌&&◌, ◌||◌, slice_set, slice_get}
+use Rattle.std.specs.Prelude.{slice_index, option_and_then, bit_or}
 use Rattle.std.specs.List.{All}
 use Rattle.std.specs.Int.Bits.{or_lt}
 use Rattle.std.proofs.lemmas.Bool.Decides.{nat_tests}
 use Rattle.std.proofs.lemmas.Option.{slice_get_within, get_or_from_slice_get}
 use Rattle.rv_isa.specs.declared.Instr.{Instr}
-use Rattle.rv_isa.specs.declared.Instr.TheVariants.{Lui, Auipc, Jal, Jalr, Branch, Load, Store, OpImm, Reg, Fence, Ecall, Ebreak}
+use Rattle.rv_isa.specs.declared.Instr.TheVariants.{Lui, Auipc, Jal, Jalr, Branch, Load, Store, OpImm, Reg, Fence}
+use Rattle.rv_isa.specs.declared.Instr.TheVariants.{Ecall, Ebreak}
 use Rattle.rv_isa.specs.Encoded.{IsExtended, IsFormed, encoded}
 use Rattle.rv_isa.specs.Split.{split_of}
 use Rattle.rv_isa.specs.Table.{decoded}
@@ -36,9 +40,11 @@ use Rattle.flat_spec.specs.Runs.{steps}
 use Rattle.sym_value.specs.declared.Value.{Value}
 use Rattle.sym_value.specs.declared.Value.TheVariants.{Num, Ptr, Ret, Mix, Part, Unset}
 use Rattle.sym_cells.specs.Memory.{life_of}
-use Rattle.sym_spec.specs.SymMachine.{SymMachine, value_of, jumps, goes_back, ends, faults, links, calls_from, line_at, clear_bit, back_index}
+use Rattle.sym_spec.specs.SymMachine.{SymMachine, value_of, jumps, goes_back, ends, faults, links, calls_from, line_at}
+use Rattle.sym_spec.specs.SymMachine.{clear_bit, back_index}
 use Rattle.sym_spec.specs.SymCalls.{quiet, calls}
-use Rattle.sym_spec.specs.SymTurns.{Here, Nothing, Heap, Pair, Code, here, runs_here, executes, acts, jumps_to, turn_of, turn}
+use Rattle.sym_spec.specs.SymTurns.{Here, Nothing, Heap, Pair, Code, here, runs_here, executes, acts, jumps_to, turn_of}
+use Rattle.sym_spec.specs.SymTurns.{turn}
 use Rattle.sym_value.specs.Standing.{IsReturn}
 use Rattle.match_spec.specs.Stands.{back_of, places_of, Holds}
 use Rattle.match_spec.specs.Parts.{InMemory, InHeap}
@@ -58,10 +64,12 @@ use Rattle.site_stubs.proofs.Way.{goes_there, split_lower, split_upper}
 use Rattle.site_stubs.proofs.StubLaw.{calls as stub_calls}
 use Rattle.flat_spec.proofs.Runs.{more_steps, one_step}
 use Rattle.new_file_spec.proofs.Jumps.{jump_formed}
-use Rattle.simulation.proofs.StubPlaces.{stub_room, place_is, stub_stands, line_bit, chosen_stub, cleared_small, chosen_back}
+use Rattle.simulation.proofs.StubPlaces.{stub_room, place_is, stub_stands, line_bit, chosen_stub, cleared_small}
+use Rattle.simulation.proofs.StubPlaces.{chosen_back}
 use Rattle.simulation.proofs.HeapTurns.{heap_turns}
 use Rattle.simulation.proofs.StubJump.{jal_turn}
-use Rattle.simulation.proofs.Following.{Follows, IsCodeHere, follows_one, fetch_code, here_code, here_heap, here_pair, plain_turn, plain_safe}
+use Rattle.simulation.proofs.Following.{Follows, IsCodeHere, follows_one, fetch_code, here_code, here_heap, here_pair}
+use Rattle.simulation.proofs.Following.{plain_turn, plain_safe}
 
 -- a jump back to a return address
 back_follows : (file : List ℕ) (plan : Plan) (new : List ℕ) (s : SymMachine) (m : Machine) (back : ℕ)

@@ -1,6 +1,7 @@
 -- What the simulation rests on: facts about a source, a plan that fits it and the memory of its new
 -- file, which speak of no state of a machine.
-use Rattle.std.specs.Prelude.{◌≡◌, ℕ, ◌+◌, ◌*◌, ◌/◌, ◌%◌, ◌^◌, ◌<◌, ◌≤◌, ◌⊎◌, List, true, false, Some, None, length, slice_get, is_some}
+use Rattle.std.specs.Prelude.{◌≡◌, ℕ, ◌+◌, ◌*◌, ◌/◌, ◌%◌, ◌^◌, ◌<◌, ◌≤◌, ◌⊎◌, List, true, false, Some, None, length}
+use Rattle.std.specs.Prelude.{slice_get, is_some}
 use Rattle.rv_isa.specs.declared.Instr.{Instr}
 use Rattle.rv_isa.specs.declared.Instr.TheVariants.{Auipc, Jal, Jalr}
 use Rattle.rv_isa.specs.Table.{decoded}

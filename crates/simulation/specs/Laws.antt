@@ -1,6 +1,7 @@
 -- What the simulation rests on of values, of the symbol machine's memory and of the heap: the laws of the
 -- crates that define them.
-use Rattle.std.specs.Prelude.{◌≡◌, ℕ, ◌+◌, ◌*◌, ◌%◌, ◌^◌, ◌<◌, ◌≤◌, List, [], ◌∷◌, ◌++◌, All, Bool, true, Some, nat_lt, length, replicate}
+use Rattle.std.specs.Prelude.{◌≡◌, ℕ, ◌+◌, ◌*◌, ◌%◌, ◌^◌, ◌<◌, ◌≤◌, List, [], ◌∷◌, ◌++◌, All, Bool, true, Some, nat_lt}
+use Rattle.std.specs.Prelude.{length, replicate}
 use Rattle.rv_isa.specs.declared.Op.{Op}
 use Rattle.rv_isa.specs.declared.Cond.{Cond}
 use Rattle.rv_isa.specs.declared.Width.{Width}

@@ -1,5 +1,6 @@
 -- Which plans fit an executable.
-use Rattle.std.specs.Prelude.{◌≡◌, ◌≢◌, ℕ, ◌<◌, ◌≤◌, List, true, false, All, AllPairs, Any, IsBitSet, Option, Some, None, IsSome, length, slice_get}
+use Rattle.std.specs.Prelude.{◌≡◌, ◌≢◌, ℕ, ◌<◌, ◌≤◌, List, true, false, All, AllPairs, Any, IsBitSet, Option, Some}
+use Rattle.std.specs.Prelude.{None, IsSome, length, slice_get}
 use Rattle.plan_core.specs.declared.types.Plan.{Plan}
 use Rattle.plan_core.specs.declared.types.PlanLine.{PlanLine}
 use Rattle.plan_core.specs.Plan.{granules}

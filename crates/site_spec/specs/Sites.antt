@@ -2,7 +2,8 @@
 -- or an AUIPC with rd = ra and behind it a JALR with rd = rs1 = ra, the first of which has a CALL or
 -- CALL_PLT relocation (18, 19) (psABI, "Relocations"; x1 is ra). It calls a code word, and none of its
 -- words is one of the two words of a heap function.
-use Rattle.std.specs.Prelude.{ℕ, ◌+◌, ◌*◌, ◌/◌, ◌==◌, List, [], ◌∷◌, Bool, true, false, not, ◌&&◌, ◌||◌, Option, Some, None, is_some, option_and_then, if◌then◌else◌}
+use Rattle.std.specs.Prelude.{ℕ, ◌+◌, ◌*◌, ◌/◌, ◌==◌, List, [], ◌∷◌, Bool, true, false, not, ◌&&◌, ◌||◌, Option, Some}
+use Rattle.std.specs.Prelude.{None, is_some, option_and_then, if◌then◌else◌}
 use Rattle.std.specs.List.{list_any, list_all}
 use Rattle.rv_isa.specs.declared.Instr.{Instr}
 use Rattle.rv_isa.specs.declared.Instr.TheVariants.{Auipc, Jal, Jalr}
@@ -17,7 +18,8 @@ use Rattle.site_spec.specs.Places.{text_at, stub_at, reaches}
 -- the places of all 32 stubs
 abbrev pub stub_numbers : List ℕ
 stub_numbers =
-    0 ∷ 1 ∷ 2 ∷ 3 ∷ 4 ∷ 5 ∷ 6 ∷ 7 ∷ 8 ∷ 9 ∷ 10 ∷ 11 ∷ 12 ∷ 13 ∷ 14 ∷ 15 ∷ 16 ∷ 17 ∷ 18 ∷ 19 ∷ 20 ∷ 21 ∷ 22 ∷ 23 ∷ 24 ∷ 25 ∷ 26 ∷ 27 ∷ 28 ∷ 29 ∷ 30 ∷ 31 ∷ []
+    0 ∷ 1 ∷ 2 ∷ 3 ∷ 4 ∷ 5 ∷ 6 ∷ 7 ∷ 8 ∷ 9 ∷ 10 ∷ 11 ∷ 12 ∷ 13 ∷ 14 ∷ 15 ∷ 16 ∷ 17 ∷ 18 ∷ 19 ∷ 20 ∷ 21 ∷ 22 ∷ 23 ∷ 24
+    ∷ 25 ∷ 26 ∷ 27 ∷ 28 ∷ 29 ∷ 30 ∷ 31 ∷ []
 
 abbrev pub reaches_all_stubs : List ℕ → ℕ → Bool
 reaches_all_stubs file a = list_all (λ k. reaches a (stub_at (text_at file) k)) stub_numbers
@@ -45,7 +47,8 @@ is_heap_word file a = list_any (λ e. (e == a) || (e + 4 == a)) (heap_entries fi
 -- the call goes to a code word, and from words that are no heap function's
 abbrev pub is_call_of_code : List ℕ → Site → Bool
 is_call_of_code file s =
-    is_some (code_word file s.target) && (not (is_heap_word file s.addr) && (not s.pair || not (is_heap_word file (s.addr + 4))))
+    is_some (code_word file s.target) && (not (is_heap_word file s.addr) &&
+    (not s.pair || not (is_heap_word file (s.addr + 4))))
 
 abbrev pub kept_site : List ℕ → Option Site → Option Site
 kept_site file (Some s) = if is_call_of_code file s then Some s else None

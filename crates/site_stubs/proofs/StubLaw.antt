@@ -1,5 +1,6 @@
 -- The words of a stub call and go back as `Calls` and `Returns` say.
-use Rattle.std.proofs.Common.{◌≡◌, ◌≢◌, ℕ, ◌-◌, ◌%◌, ◌^◌, ◌<◌, ◌≤◌, ◌==◌, Bool, true, false, List, nat_eq, refl, sym, ◌∙◌, subst, arith, min, max, if◌then◌else◌, w32}
+use Rattle.std.proofs.Common.{◌≡◌, ◌≢◌, ℕ, ◌-◌, ◌%◌, ◌^◌, ◌<◌, ◌≤◌, ◌==◌, Bool, true, false, List, nat_eq, refl, sym}
+use Rattle.std.proofs.Common.{◌∙◌, subst, arith, min, max, if◌then◌else◌, w32}
 use Rattle.std.specs.Prelude.{slice_index, bit_and, bit_or}
 use Rattle.std.specs.Int.{bit_at}
 use Rattle.std.proofs.lemmas.Bool.Decides.{nat_tests}
@@ -12,9 +13,11 @@ use Rattle.new_file_spec.specs.Stubs.{stub_words}
 use Rattle.machine_spec.specs.Memory.{Range}
 use Rattle.flat_spec.specs.Machine.{Machine, register}
 use Rattle.flat_spec.specs.Runs.{State, steps}
-use Rattle.site_stubs.specs.StubRuns.{Calls, CallsFrom, ClearsBit, GoesBack, Reaches, Returns, RunsAt, SetsBit, StandAt, state_of}
+use Rattle.site_stubs.specs.StubRuns.{Calls, CallsFrom, ClearsBit, GoesBack, Reaches, Returns, RunsAt, SetsBit, StandAt}
+use Rattle.site_stubs.specs.StubRuns.{state_of}
 use Rattle.site_stubs.proofs.Way.{change_first, change_zero, Changed, split_lower, split_upper, goes_there}
-use Rattle.site_stubs.proofs.Turns.{EndsAt, IsFormed-add, IsFormed-ones, add_turn, and_turn, auipc_turn, bit_small, next_bits, next_first, next_jump, or_turn, shift_turn, xor_turn}
+use Rattle.site_stubs.proofs.Turns.{EndsAt, IsFormed-add, IsFormed-ones, add_turn, and_turn, auipc_turn, bit_small}
+use Rattle.site_stubs.proofs.Turns.{next_bits, next_first, next_jump, or_turn, shift_turn, xor_turn}
 
 -- a machine that hasn't moved yet
 starts : (m : Machine) (pc at : ℕ) (words : List ℕ) (input output : List ℕ) → RunsAt m pc at words

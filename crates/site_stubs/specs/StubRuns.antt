@@ -1,6 +1,7 @@
 -- What the words of a stub do on the flat machine (RISC-V unprivileged manual; x1 is ra). Addresses
 -- are taken modulo 2^32.
-use Rattle.std.specs.Prelude.{◌≡◌, ◌≢◌, ℕ, ◌-◌, ◌*◌, ◌^◌, ◌<◌, ◌==◌, List, Some, length, bit_and, bit_or, slice_index, if◌then◌else◌}
+use Rattle.std.specs.Prelude.{◌≡◌, ◌≢◌, ℕ, ◌-◌, ◌*◌, ◌^◌, ◌<◌, ◌==◌, List, Some, length, bit_and, bit_or, slice_index}
+use Rattle.std.specs.Prelude.{if◌then◌else◌}
 use Rattle.std.specs.Int.{bit_at}
 use Rattle.rv_isa.specs.Addresses.{plus}
 use Rattle.machine_spec.specs.declared.Ending.TheVariants.{Running}

@@ -1,6 +1,8 @@
 -- The buffers of system calls on both machines: the bytes of a write are the flat machine's, and a read
 -- keeps both memories alike.
-use Rattle.std.proofs.Common.{◌≡◌, ◌⊎◌, ℕ, zero, suc, ◌+◌, ◌%◌, ◌<◌, ◌≤◌, Bool, true, false, ◌&&◌, nat_le, List, [], ◌∷◌, length, map, Option, Some, None, is_some, option_map, option_and_then, slice_get, slice_index, if◌then◌else◌, refl, ap, sym, subst, ◌∙◌, inl, inr, ⊎_elim, arith}
+use Rattle.std.proofs.Common.{◌≡◌, ◌⊎◌, ℕ, zero, suc, ◌+◌, ◌%◌, ◌<◌, ◌≤◌, Bool, true, false, ◌&&◌, nat_le, List, []}
+use Rattle.std.proofs.Common.{◌∷◌, length, map, Option, Some, None, is_some, option_map, option_and_then, slice_get}
+use Rattle.std.proofs.Common.{slice_index, if◌then◌else◌, refl, ap, sym, subst, ◌∙◌, inl, inr, ⊎_elim, arith}
 use Rattle.std.specs.List.{All}
 use Rattle.std.proofs.lemmas.Bool.{and_parts, leb-true, le-leb, lt-ltb, cases_lt}
 use Rattle.std.proofs.lemmas.List.Elements.{All-head, All-tail}
@@ -19,8 +21,10 @@ use Rattle.sym_cells.specs.declared.Mark.{Mark}
 use Rattle.sym_cells.specs.declared.Mark.TheVariants.{Known, Blank, Piece}
 use Rattle.sym_cells.specs.Cells.{Cells, cell_in, mark_at}
 use Rattle.sym_cells.specs.Memory.{Block, Memory, cell_at, capacity_of, number_in, stored, life_of, live_of}
-use Rattle.sym_cells.specs.Buffers.{is_inside_one, is_within, numbers_from, numbers_in, taken, next_byte, stored_each, filled}
-use Rattle.sym_cells.specs.Region.{Region, is_offset, MarkStands, MemoryStands, IsThere, InBlock, Laid, StoresAlike, FillsAlike}
+use Rattle.sym_cells.specs.Buffers.{is_inside_one, is_within, numbers_from, numbers_in, taken, next_byte, stored_each}
+use Rattle.sym_cells.specs.Buffers.{filled}
+use Rattle.sym_cells.specs.Region.{Region, is_offset, MarkStands, MemoryStands, IsThere, InBlock, Laid, StoresAlike}
+use Rattle.sym_cells.specs.Region.{FillsAlike}
 use Rattle.sym_cells.proofs.MemoryLaws.{Reached, reached, block_stores, stores_alike}
 
 -- known bytes of a region are the flat machine's

@@ -1,5 +1,6 @@
 -- A pointer or a return address that is copied byte by byte is itself where it was copied to.
-use Rattle.std.proofs.Common.{◌≡◌, ◌≢◌, ℕ, zero, suc, ◌+◌, ◌/◌, ◌%◌, ◌<◌, Bool, true, false, ◌&&◌, if◌then◌else◌, nat_eq, refl, ap, ap₂, sym, subst, ◌∙◌, arith}
+use Rattle.std.proofs.Common.{◌≡◌, ◌≢◌, ℕ, zero, suc, ◌+◌, ◌/◌, ◌%◌, ◌<◌, Bool, true, false, ◌&&◌, if◌then◌else◌}
+use Rattle.std.proofs.Common.{nat_eq, refl, ap, ap₂, sym, subst, ◌∙◌, arith}
 use Rattle.std.proofs.lemmas.Bool.{and_parts, and_from, eqb-true, eqb-false, eq-eqb}
 use Rattle.rv_isa.specs.declared.Width.{Width}
 use Rattle.rv_isa.specs.declared.Width.TheVariants.{Byte, Half, Word, ByteU, HalfU}
@@ -10,7 +11,8 @@ use Rattle.sym_value.specs.declared.Whole.TheVariants.{Ptr as WholePtr, Ret as W
 use Rattle.sym_cells.specs.declared.Mark.{Mark}
 use Rattle.sym_cells.specs.declared.Mark.TheVariants.{Known, Blank, Piece}
 use Rattle.sym_cells.specs.Cells.{Cell, Bytes, Mixed, Cells, mark_in, mark_at, put_mark}
-use Rattle.sym_cells.specs.Moves.{same_whole, value_of, is_piece, word_of, word_in, load_at, copy_byte, copy_inside, copy_across}
+use Rattle.sym_cells.specs.Moves.{same_whole, value_of, is_piece, word_of, word_in, load_at, copy_byte, copy_inside}
+use Rattle.sym_cells.specs.Moves.{copy_across}
 use Rattle.sym_cells.proofs.CellLaws.{mark_here, mark_elsewhere, marks_of_cell}
 use Rattle.sym_cells.proofs.LoadLaw.{same_whole_is}
 

@@ -1,5 +1,7 @@
 -- Stores into lists of cells, and into spans of plain memory, are stores into the cells by their numbers.
-use Rattle.std.proofs.Common.{◌≡◌, ◌≢◌, ℕ, ◌+◌, ◌-◌, ◌*◌, ◌/◌, ◌%◌, ◌<◌, ◌≤◌, Bool, true, false, ◌&&◌, ◌||◌, cond, nat_eq, nat_le, nat_lt, List, [], ◌∷◌, length, slice_set, refl, ap, ap₂, sym, ◌∙◌, arith, length-set, get_or-set_same, get_or-set_other}
+use Rattle.std.proofs.Common.{◌≡◌, ◌≢◌, ℕ, ◌+◌, ◌-◌, ◌*◌, ◌/◌, ◌%◌, ◌<◌, ◌≤◌, Bool, true, false, ◌&&◌, ◌||◌, cond}
+use Rattle.std.proofs.Common.{nat_eq, nat_le, nat_lt, List, [], ◌∷◌, length, slice_set, refl, ap, ap₂, sym, ◌∙◌, arith}
+use Rattle.std.proofs.Common.{length-set, get_or-set_same, get_or-set_other}
 use Rattle.std.proofs.Math.Path.{fun_ext}
 use Rattle.std.proofs.lemmas.Bool.{both_ways, and_parts, eqb-true, eqb-false, eq-eqb, ne_eqb, leb-true, ltb-true}
 use Rattle.rv_isa.specs.declared.Width.{Width}
@@ -8,7 +10,8 @@ use Rattle.machine_spec.specs.Widths.{size_of}
 use Rattle.sym_value.specs.declared.Value.{Value}
 use Rattle.sym_value.specs.declared.Value.TheVariants.{Num, Ptr, Ret, Mix, Part}
 use Rattle.sym_cells.specs.declared.Mark.{Mark}
-use Rattle.sym_cells.specs.Cells.{Cell, Mixed, Cells, blank_cell, cell_in, put_in, put_cell, put_mark, put_marks, put_listed, put_all}
+use Rattle.sym_cells.specs.Cells.{Cell, Mixed, Cells, blank_cell, cell_in, put_in, put_cell, put_mark, put_marks}
+use Rattle.sym_cells.specs.Cells.{put_listed, put_all}
 use Rattle.sym_cells.specs.Moves.{marks_left, store_at, store}
 use Rattle.sym_cells.specs.Memory.{Span, has, has_cell, cell_at, store_plain}
 

@@ -1,5 +1,8 @@
 -- Loads and stores of values that stand for addresses: what the symbol machine does, the flat one does.
-use Rattle.std.proofs.Common.{◌≡◌, ◌≢◌, ◌⊎◌, ℕ, zero, suc, ◌+◌, ◌-◌, ◌*◌, ◌/◌, ◌%◌, ◌^◌, ◌<◌, ◌≤◌, Bool, true, false, ◌&&◌, nat_eq, nat_lt, if◌then◌else◌, List, [], ◌∷◌, length, map, Option, Some, None, is_some, option_map, option_and_then, slice_get, slice_set, slice_index, refl, ap, sym, subst, ◌∙◌, inl, inr, ⊎_elim, arith}
+use Rattle.std.proofs.Common.{◌≡◌, ◌≢◌, ◌⊎◌, ℕ, zero, suc, ◌+◌, ◌-◌, ◌*◌, ◌/◌, ◌%◌, ◌^◌, ◌<◌, ◌≤◌, Bool, true, false}
+use Rattle.std.proofs.Common.{◌&&◌, nat_eq, nat_lt, if◌then◌else◌, List, [], ◌∷◌, length, map, Option, Some, None}
+use Rattle.std.proofs.Common.{is_some, option_map, option_and_then, slice_get, slice_set, slice_index, refl, ap, sym}
+use Rattle.std.proofs.Common.{subst, ◌∙◌, inl, inr, ⊎_elim, arith}
 use Rattle.std.specs.Prelude.{◌==◌}
 use Rattle.std.proofs.lemmas.Bool.{and_parts, eqb-true, eqb-false, eq-eqb, leb-true, ltb-true, lt-ltb, cases_lt}
 use Rattle.std.proofs.lemmas.Option.{slice_get-map, get_or_from_slice_get}
@@ -18,7 +21,8 @@ use Rattle.sym_value.specs.declared.Value.TheVariants.{Num, Ptr, Ret, Mix, Part,
 use Rattle.sym_value.specs.Standing.{Holds, Placed, IsPlaced, address, area_end}
 use Rattle.sym_cells.specs.Cells.{Cells, cell_in}
 use Rattle.sym_cells.specs.Moves.{load_at, store_at, store}
-use Rattle.sym_cells.specs.Memory.{Block, Memory, has_cell, cell_at, capacity_of, is_inside, is_aligned, loaded_in, loaded, store_plain, stored_in, stored, life_of, live_of}
+use Rattle.sym_cells.specs.Memory.{Block, Memory, has_cell, cell_at, capacity_of, is_inside, is_aligned, loaded_in}
+use Rattle.sym_cells.specs.Memory.{loaded, store_plain, stored_in, stored, life_of, live_of}
 use Rattle.sym_cells.specs.Region.{Region, AreWords, is_offset, MemoryStands, IsThere, Laid, LoadsAlike, StoresAlike}
 use Rattle.sym_cells.proofs.LoadLaw.{load_holds}
 use Rattle.sym_cells.proofs.StoreLaw.{length-low_bytes, store_holds, store_apart}

@@ -1,6 +1,7 @@
 -- The buffers of system calls: the n bytes from a number or a pointer on. A write takes them where each
 -- is known; a read stores the bytes of the input there, one after the other.
-use Rattle.std.specs.Prelude.{ℕ, zero, suc, ◌+◌, List, [], ◌∷◌, Bool, false, Option, Some, None, option_map, option_and_then, if◌then◌else◌, slice_get}
+use Rattle.std.specs.Prelude.{ℕ, zero, suc, ◌+◌, List, [], ◌∷◌, Bool, false, Option, Some, None, option_map}
+use Rattle.std.specs.Prelude.{option_and_then, if◌then◌else◌, slice_get}
 use Rattle.rv_isa.specs.declared.Width.TheVariants.{ByteU}
 use Rattle.machine_spec.specs.Memory.{all_from}
 use Rattle.sym_value.specs.declared.Value.{Value}

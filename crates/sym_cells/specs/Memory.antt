@@ -1,6 +1,8 @@
 -- The symbol machine's memory: plain memory in spans of cells, and blocks by their names. A number
 -- reaches plain bytes alone, a pointer the bytes of its block alone, while it lives.
-use Rattle.std.specs.Prelude.{ℕ, ◌+◌, ◌-◌, ◌*◌, ◌/◌, ◌%◌, ◌^◌, ◌==◌, List, [], ◌∷◌, ◌++◌, Bool, true, false, ◌&&◌, Option, Some, None, option_map, if◌then◌else◌, nat_le, nat_lt, length, map, take, drop, replicate, slice_get, slice_set}
+use Rattle.std.specs.Prelude.{ℕ, ◌+◌, ◌-◌, ◌*◌, ◌/◌, ◌%◌, ◌^◌, ◌==◌, List, [], ◌∷◌, ◌++◌, Bool, true, false, ◌&&◌}
+use Rattle.std.specs.Prelude.{Option, Some, None, option_map, if◌then◌else◌, nat_le, nat_lt, length, map, take, drop}
+use Rattle.std.specs.Prelude.{replicate, slice_get, slice_set}
 use Rattle.std.specs.List.{list_any}
 use Rattle.rv_isa.specs.declared.Width.{Width}
 use Rattle.machine_spec.specs.Widths.{size_of}

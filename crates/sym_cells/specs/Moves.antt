@@ -1,5 +1,6 @@
 -- What aligned loads and stores of all widths move between values and cells.
-use Rattle.std.specs.Prelude.{ℕ, ◌+◌, ◌/◌, ◌==◌, List, [], ◌∷◌, Bool, false, ◌&&◌, if◌then◌else◌, map, replicate, slice_set}
+use Rattle.std.specs.Prelude.{ℕ, ◌+◌, ◌/◌, ◌==◌, List, [], ◌∷◌, Bool, false, ◌&&◌, if◌then◌else◌, map, replicate}
+use Rattle.std.specs.Prelude.{slice_set}
 use Rattle.rv_isa.specs.declared.Width.{Width}
 use Rattle.rv_isa.specs.declared.Width.TheVariants.{Byte, Half, Word, ByteU, HalfU}
 use Rattle.machine_spec.specs.Widths.{number_of, low_bytes, size_of, loaded_as}

@@ -1,7 +1,8 @@
 -- When bytes of the flat machine stand for cells: a region is a range of its addresses from a base on,
 -- of which some offsets can be reached, and the cells that they stand for. Plain memory is the region
 -- from 0 on whose offsets are the plain addresses; a living block is the region from its address on.
-use Rattle.std.specs.Prelude.{◌≡◌, ◌⊎◌, ℕ, ◌+◌, ◌*◌, ◌/◌, ◌^◌, ◌<◌, ◌≤◌, List, Bool, true, Some, is_some, nat_lt, length, map, slice_get, slice_index}
+use Rattle.std.specs.Prelude.{◌≡◌, ◌⊎◌, ℕ, ◌+◌, ◌*◌, ◌/◌, ◌^◌, ◌<◌, ◌≤◌, List, Bool, true, Some, is_some, nat_lt}
+use Rattle.std.specs.Prelude.{length, map, slice_get, slice_index}
 use Rattle.rv_isa.specs.declared.Width.{Width}
 use Rattle.machine_spec.specs.Memory.{Range, range_at, byte_of, all_from}
 use Rattle.machine_spec.specs.Widths.{number_of, low_bytes, size_of}

@@ -1,6 +1,7 @@
 // Laws of symbol memory, each an empty function whose contract is proved: what loads and stores keep of
 // the flat machine's bytes that stand for cells, over any region and then over the whole memory.
-ghost use Rattle.std.specs.Prelude.{◌≡◌, ◌⊎◌, ℕ, ◌+◌, ◌*◌, ◌/◌, ◌%◌, ◌^◌, ◌<◌, ◌≤◌, List, All, Bool, true, Some, length};
+ghost use Rattle.std.specs.Prelude.{◌≡◌, ◌⊎◌, ℕ, ◌+◌, ◌*◌, ◌/◌, ◌%◌, ◌^◌, ◌<◌, ◌≤◌, List, All, Bool, true, Some};
+ghost use Rattle.std.specs.Prelude.{length};
 ghost use Rattle.rv_isa.specs.declared.Width.{Width};
 ghost use Rattle.rv_isa.specs.declared.Width.TheVariants.{Word};
 ghost use Rattle.machine_spec.specs.Widths.{number_of, low_bytes, size_of, loaded_as};
@@ -13,7 +14,8 @@ ghost use Rattle.sym_cells.specs.Cells.{Cell, Cells, cell_in};
 ghost use Rattle.sym_cells.specs.Moves.{value_of, load_at, store_at, store, copy_inside, copy_across};
 ghost use Rattle.sym_cells.specs.Memory.{Span, Memory, has_cell, cell_at, store_plain, loaded, stored};
 ghost use Rattle.sym_cells.specs.Buffers.{is_within, taken, filled};
-ghost use Rattle.sym_cells.specs.Region.{Region, AreWords, MemoryStands, IsThere, Laid, LoadsAlike, StoresAlike, FillsAlike};
+ghost use Rattle.sym_cells.specs.Region.{Region, AreWords, MemoryStands, IsThere, Laid, LoadsAlike, StoresAlike};
+ghost use Rattle.sym_cells.specs.Region.{FillsAlike};
 
 /// A load at an aligned offset of a region gives a value for which the flat machine's word stands.
 pub fn a_load_stands_for_the_flat_load()

@@ -1,6 +1,8 @@
 -- Bytes that are taken from buffers and put into them.
-use Rattle.std.proofs.Common.{◌≡◌, ℕ, zero, suc, ◌+◌, ◌*◌, ◌%◌, ◌<◌, ◌≤◌, Bool, true, false, ◌&&◌, List, [], ◌∷◌, length, map, take, drop, nat_le, refl, ap, sym, ◌∙◌, arith}
-use Rattle.std.specs.Prelude.{Option, Some, None, is_some, unwrap_or, option_map, option_and_then, slice_get, slice_index, slice_set}
+use Rattle.std.proofs.Common.{◌≡◌, ℕ, zero, suc, ◌+◌, ◌*◌, ◌%◌, ◌<◌, ◌≤◌, Bool, true, false, ◌&&◌, List, [], ◌∷◌}
+use Rattle.std.proofs.Common.{length, map, take, drop, nat_le, refl, ap, sym, ◌∙◌, arith}
+use Rattle.std.specs.Prelude.{Option, Some, None, is_some, unwrap_or, option_map, option_and_then, slice_get}
+use Rattle.std.specs.Prelude.{slice_index, slice_set}
 use Rattle.std.proofs.lemmas.Bool.{and_parts, leb-true, le-leb}
 use Rattle.std.proofs.lemmas.Option.{slice_get-map}
 use Rattle.rv_isa.specs.declared.Width.TheVariants.{ByteU}
@@ -10,7 +12,8 @@ use Rattle.sym_value.specs.declared.Value.TheVariants.{Num, Ptr, Ret, Mix, Part,
 use Rattle.sym_value.specs.declared.live.Life.{Life}
 use Rattle.sym_cells.specs.Cells.{Cells, cell_in, mark_at}
 use Rattle.sym_cells.specs.Moves.{store}
-use Rattle.sym_cells.specs.Memory.{Block, Memory, capacity_of, cell_at, is_aligned, life_of, number_in, store_plain, stored_in, stored}
+use Rattle.sym_cells.specs.Memory.{Block, Memory, capacity_of, cell_at, is_aligned, life_of, number_in, store_plain}
+use Rattle.sym_cells.specs.Memory.{stored_in, stored}
 use Rattle.sym_cells.specs.Buffers.{is_inside_one, is_within, numbers_from, numbers_in, taken, next_byte, stored_each}
 use Rattle.sym_cells.proofs.Lists.{length-store}
 use Rattle.sym_spec.specs.Plain.{is_plain, is_plain_store}

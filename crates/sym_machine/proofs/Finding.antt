@@ -11,7 +11,8 @@ use Rattle.site_spec.specs.declared.Site.{Site}
 use Rattle.site_spec.specs.Sites.{site_at}
 use Rattle.plan_core.specs.declared.types.Plan.{Plan}
 use Rattle.sym_spec.specs.SymMachine.{SymMachine}
-use Rattle.sym_spec.specs.SymTurns.{Here, Nothing, Heap, Pair, Code, here, is_second, runs_here, turn_of, turn as machine_turn}
+use Rattle.sym_spec.specs.SymTurns.{Here, Nothing, Heap, Pair, Code, here, is_second, runs_here, turn_of}
+use Rattle.sym_spec.specs.SymTurns.{turn as machine_turn}
 use Rattle.sym_spec.specs.SymNotes.{here_note}
 use Rattle.sym_spec.specs.HeapActions.{function_at}
 use Rattle.rv_isa.specs.declared.Instr.{Instr}

@@ -2,7 +2,8 @@
 use Rattle.std.proofs.Common.{◌≡◌, ℕ, ◌+◌, ◌==◌, ◌||◌, List, [], ◌∷◌, refl, sym, ap, Option, Some, None}
 use Rattle.std.specs.List.{filter_map, list_any}
 use Rattle.elf_spec.specs.declared.HeapName.{HeapName}
-use Rattle.elf_spec.specs.declared.HeapName.TheVariants.{Malloc, Calloc, Realloc, Free, MallocR, CallocR, ReallocR, FreeR}
+use Rattle.elf_spec.specs.declared.HeapName.TheVariants.{Malloc, Calloc, Realloc, Free, MallocR, CallocR, ReallocR}
+use Rattle.elf_spec.specs.declared.HeapName.TheVariants.{FreeR}
 use Rattle.elf_spec.specs.Heap.{heap_entries, heap_entry, heap_names}
 use Rattle.sym_machine.specs.Heap.{is_behind}
 

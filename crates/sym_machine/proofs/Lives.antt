@@ -1,5 +1,6 @@
 -- Which blocks live, and where they stand, after stores, grants, copies and deaths.
-use Rattle.std.proofs.Common.{◌≡◌, ◌≢◌, ◌⊎◌, inl, inr, ℕ, zero, suc, ◌+◌, ◌*◌, ◌<◌, ◌≤◌, Bool, true, false, ◌&&◌, List, [], ◌∷◌, ◌++◌, length, map, refl, ap, sym, ◌∙◌, arith, length-append}
+use Rattle.std.proofs.Common.{◌≡◌, ◌≢◌, ◌⊎◌, inl, inr, ℕ, zero, suc, ◌+◌, ◌*◌, ◌<◌, ◌≤◌, Bool, true, false, ◌&&◌, List}
+use Rattle.std.proofs.Common.{[], ◌∷◌, ◌++◌, length, map, refl, ap, sym, ◌∙◌, arith, length-append}
 use Rattle.std.specs.Prelude.{Option, Some, None, option_map, slice_get, slice_index, slice_set, if◌then◌else◌}
 use Rattle.std.proofs.lemmas.List.{length-map, length-set}
 use Rattle.std.proofs.lemmas.Option.{slice_get-map, slice_get_past, slice_get_within}
@@ -11,7 +12,8 @@ use Rattle.sym_value.specs.declared.Value.{Value}
 use Rattle.sym_value.specs.declared.Value.TheVariants.{Num, Ptr, Ret, Mix, Part, Unset}
 use Rattle.sym_value.specs.Places.{is_living, lives_in}
 use Rattle.sym_cells.specs.Moves.{store}
-use Rattle.sym_cells.specs.Memory.{Block, Memory, is_aligned, is_inside, life_of, live_of, store_plain, stored_in, stored, granted, died, dropped, set_block, overlaid, overlaid_block, copied}
+use Rattle.sym_cells.specs.Memory.{Block, Memory, is_aligned, is_inside, life_of, live_of, store_plain, stored_in}
+use Rattle.sym_cells.specs.Memory.{stored, granted, died, dropped, set_block, overlaid, overlaid_block, copied}
 use Rattle.rv_isa.specs.declared.Width.{Width}
 use Rattle.machine_spec.specs.Widths.{size_of}
 use Rattle.sym_cells.proofs.Lists.{length-store}

@@ -1,12 +1,15 @@
 -- A turn names at most one block more.
-use Rattle.std.proofs.Common.{◌≡◌, ℕ, ◌+◌, ◌*◌, ◌/◌, ◌≤◌, ◌==◌, Bool, true, false, ◌&&◌, ◌||◌, List, [], ◌∷◌, length, refl, ap, subst, arith, length-append, Option, Some, None, is_some}
+use Rattle.std.proofs.Common.{◌≡◌, ℕ, ◌+◌, ◌*◌, ◌/◌, ◌≤◌, ◌==◌, Bool, true, false, ◌&&◌, ◌||◌, List, [], ◌∷◌, length}
+use Rattle.std.proofs.Common.{refl, ap, subst, arith, length-append, Option, Some, None, is_some}
 use Rattle.std.specs.Prelude.{if◌then◌else◌, take}
 use Rattle.rv_isa.specs.declared.Instr.{Instr}
-use Rattle.rv_isa.specs.declared.Instr.TheVariants.{Lui, Auipc, Jal, Jalr, Branch, Load, Store, OpImm, Reg, Fence, Ecall, Ebreak}
+use Rattle.rv_isa.specs.declared.Instr.TheVariants.{Lui, Auipc, Jal, Jalr, Branch, Load, Store, OpImm, Reg, Fence}
+use Rattle.rv_isa.specs.declared.Instr.TheVariants.{Ecall, Ebreak}
 use Rattle.rv_isa.specs.Addresses.{plus}
 use Rattle.rv_isa.specs.Table.{decoded}
 use Rattle.elf_spec.specs.declared.HeapName.{HeapName}
-use Rattle.elf_spec.specs.declared.HeapName.TheVariants.{Malloc, Calloc, Realloc, Free, MallocR, CallocR, ReallocR, FreeR}
+use Rattle.elf_spec.specs.declared.HeapName.TheVariants.{Malloc, Calloc, Realloc, Free, MallocR, CallocR, ReallocR}
+use Rattle.elf_spec.specs.declared.HeapName.TheVariants.{FreeR}
 use Rattle.elf_spec.specs.Code.{code_word}
 use Rattle.machine_spec.specs.declared.Ending.{Ending}
 use Rattle.machine_spec.specs.declared.Ending.TheVariants as ending
@@ -26,10 +29,15 @@ use Rattle.sym_value.specs.Decisions.{decide}
 use Rattle.sym_cells.specs.Memory.{Memory, loaded, stored}
 use Rattle.sym_cells.specs.Buffers.{is_within, taken, filled}
 use Rattle.sym_spec.specs.Plain.{is_plain, is_plain_store}
-use Rattle.sym_spec.specs.SymMachine.{SymMachine, lives_of, value_of, faults, loads, stores, goes_to, links, jumps, goes_back}
-use Rattle.sym_spec.specs.SymCalls.{SymTurn, quiet, answers, word_in, buffer_in, reads_into, reads_to, writes_known, writes_from, reads, writes, calls_with, calls_by, calls}
-use Rattle.sym_spec.specs.SymTurns.{Here, Nothing, Heap, Pair, Code, here, address_of, jumps_to, branches, acts, executes, runs_here, turn_of, turn as machine_turn}
-use Rattle.sym_spec.specs.HeapActions.{Outcome, Action, base, granule_in, grants_placed, grants, moves_placed, moves, releases, is_front, mallocs, callocs, reallocs, frees, function, outcome, answered, returns, returns_with, serves}
+use Rattle.sym_spec.specs.SymMachine.{SymMachine, lives_of, value_of, faults, loads, stores, goes_to, links, jumps}
+use Rattle.sym_spec.specs.SymMachine.{goes_back}
+use Rattle.sym_spec.specs.SymCalls.{SymTurn, quiet, answers, word_in, buffer_in, reads_into, reads_to, writes_known}
+use Rattle.sym_spec.specs.SymCalls.{writes_from, reads, writes, calls_with, calls_by, calls}
+use Rattle.sym_spec.specs.SymTurns.{Here, Nothing, Heap, Pair, Code, here, address_of, jumps_to, branches, acts}
+use Rattle.sym_spec.specs.SymTurns.{executes, runs_here, turn_of, turn as machine_turn}
+use Rattle.sym_spec.specs.HeapActions.{Outcome, Action, base, granule_in, grants_placed, grants, moves_placed, moves}
+use Rattle.sym_spec.specs.HeapActions.{releases, is_front, mallocs, callocs, reallocs, frees, function, outcome}
+use Rattle.sym_spec.specs.HeapActions.{answered, returns, returns_with, serves}
 use Rattle.sym_machine.specs.Programs.{Program, turn}
 use Rattle.sym_machine.specs.Steps.{Called}
 

@@ -2,7 +2,8 @@
 use Rattle.std.proofs.Common.{◌≡◌, ℕ, zero, suc, ◌+◌, ◌==◌, Bool, true, false, ◌||◌, List, [], take, refl, ap, ◌∙◌}
 use Rattle.std.specs.Prelude.{Option, Some, None, if◌then◌else◌}
 use Rattle.rv_isa.specs.declared.Instr.{Instr}
-use Rattle.rv_isa.specs.declared.Instr.TheVariants.{Lui, Auipc, Jal, Jalr, Branch, Load, Store, OpImm, Reg, Fence, Ecall, Ebreak}
+use Rattle.rv_isa.specs.declared.Instr.TheVariants.{Lui, Auipc, Jal, Jalr, Branch, Load, Store, OpImm, Reg, Fence}
+use Rattle.rv_isa.specs.declared.Instr.TheVariants.{Ecall, Ebreak}
 use Rattle.rv_isa.specs.Table.{decoded}
 use Rattle.elf_spec.specs.declared.HeapName.{HeapName}
 use Rattle.elf_spec.specs.Code.{code_word}
@@ -21,7 +22,8 @@ use Rattle.sym_spec.specs.SymCalls.{SymTurn, word_in, pointer_in, buffer_in, rea
 use Rattle.sym_spec.specs.SymTurns.{Here, Nothing, Heap, Pair, Code, here, here_with, is_second, turn as machine_turn}
 use Rattle.sym_spec.specs.SymNotes.{here_note, is_fault, ending_note, note}
 use Rattle.sym_machine.specs.Programs.{Program, turn, turned}
-use Rattle.sym_machine.specs.Asks.{asks, asks_of, asks_here, asks_instr, asks_by, asks_with, asks_read, asks_write, asks_into, asks_from, asks_input, asks_output}
+use Rattle.sym_machine.specs.Asks.{asks, asks_of, asks_here, asks_instr, asks_by, asks_with, asks_read, asks_write}
+use Rattle.sym_machine.specs.Asks.{asks_into, asks_from, asks_input, asks_output}
 use Rattle.sym_machine.specs.Seen.{read_note}
 
 -- what stands where a read wants n bytes

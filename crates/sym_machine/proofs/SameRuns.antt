@@ -10,7 +10,8 @@ use Rattle.sym_machine.specs.declared.SymEnd.TheVariants.{Exited, Illegal, Fault
 use Rattle.sym_machine.specs.Ends.{run_end}
 use Rattle.sym_machine.specs.Programs.{Program, turn}
 use Rattle.sym_machine.specs.Rules.{sym_rules}
-use Rattle.sym_machine.specs.Runs.{run_from, program_at, IsRunning, EndsAt, WroteLast, GrantsAfter, StopsAt, Answers, IsLeft, Leaves, Ran, EndsAs}
+use Rattle.sym_machine.specs.Runs.{run_from, program_at, IsRunning, EndsAt, WroteLast, GrantsAfter, StopsAt, Answers}
+use Rattle.sym_machine.specs.Runs.{IsLeft, Leaves, Ran, EndsAs}
 
 abbrev seen_as : Program → SymState → any.State Program
 seen_as p s = record { machine = program_at p s; input = s.input; output = s.output }

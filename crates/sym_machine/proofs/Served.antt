@@ -17,7 +17,8 @@ use Rattle.place_spec.specs.Layout.{granules_for}
 use Rattle.place_spec.specs.Place.{Placed}
 use Rattle.place_spec.specs.Release.{moved}
 use Rattle.heap_spec.specs.Requests.{placed_for}
-use Rattle.sym_spec.specs.HeapActions.{Outcome, granule_in, grants_placed, grants, moves_placed, moves, outcome, kept_from, answered, returns, serves}
+use Rattle.sym_spec.specs.HeapActions.{Outcome, granule_in, grants_placed, grants, moves_placed, moves, outcome}
+use Rattle.sym_spec.specs.HeapActions.{kept_from, answered, returns, serves}
 use Rattle.sym_machine.specs.declared.requests.Acted.{Acted}
 use Rattle.sym_machine.specs.declared.requests.Request.{Request}
 use Rattle.sym_machine.specs.declared.requests.Request.TheVariants.{Grant, Move, Release, Nothing as NoRequest}

@@ -1,7 +1,9 @@
 -- Steps, by what the machine alone did.
-use Rattle.std.proofs.Common.{◌≡◌, ℕ, zero, suc, ◌+◌, ◌≤◌, ◌∷◌, Bool, true, false, List, [], length, take, drop, refl, ap, sym, ◌∙◌, subst, arith}
+use Rattle.std.proofs.Common.{◌≡◌, ℕ, zero, suc, ◌+◌, ◌≤◌, ◌∷◌, Bool, true, false, List, [], length, take, drop, refl}
+use Rattle.std.proofs.Common.{ap, sym, ◌∙◌, subst, arith}
 use Rattle.std.specs.declared.alloc.AllocError.{AllocError}
-use Rattle.std.specs.Prelude.{Result, Ok, Err, IfOk, IsSome, OnErr, Option, Some, None, is_some, unwrap_or, slice_index, if◌then◌else◌}
+use Rattle.std.specs.Prelude.{Result, Ok, Err, IfOk, IsSome, OnErr, Option, Some, None, is_some, unwrap_or, slice_index}
+use Rattle.std.specs.Prelude.{if◌then◌else◌}
 use Rattle.machine_spec.specs.declared.Ending.{Ending}
 use Rattle.machine_spec.specs.declared.Ending.TheVariants as ending
 use Rattle.machine_spec.specs.declared.FaultKind.{FaultKind}

@@ -1,6 +1,7 @@
 -- What stands at an address, as a turn needs it: the word is decoded, and of the site line of a call its
 -- bit is a mask.
-use Rattle.std.specs.Prelude.{◌≡◌, ℕ, ◌^◌, ◌<◌, ◌==◌, List, Bool, false, All, Option, Some, None, IfSome, is_some, option_map, option_and_then, map, length, slice_get, bit_and, bit_or, ◌-◌}
+use Rattle.std.specs.Prelude.{◌≡◌, ℕ, ◌^◌, ◌<◌, ◌==◌, List, Bool, false, All, Option, Some, None, IfSome, is_some}
+use Rattle.std.specs.Prelude.{option_map, option_and_then, map, length, slice_get, bit_and, bit_or, ◌-◌}
 use Rattle.rv_isa.specs.Encoded.{NamesRegisters}
 use Rattle.rv_isa.specs.Table.{decoded}
 use Rattle.elf_spec.specs.Code.{code_word}

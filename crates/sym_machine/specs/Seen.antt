@@ -1,5 +1,6 @@
 -- What contracts see of a symbol machine between two steps.
-use Rattle.std.specs.Prelude.{◌≡◌, ℕ, ◌+◌, ◌≤◌, List, [], true, Option, Some, None, MatchOption, is_some, option_map, option_and_then, unwrap_or, length}
+use Rattle.std.specs.Prelude.{◌≡◌, ℕ, ◌+◌, ◌≤◌, List, [], true, Option, Some, None, MatchOption, is_some, option_map}
+use Rattle.std.specs.Prelude.{option_and_then, unwrap_or, length}
 use Rattle.machine_spec.specs.declared.Ending.TheVariants.{Running}
 use Rattle.machine_run.specs.declared.pause.Pause.{Pause}
 use Rattle.machine_run.specs.declared.pause.Pause.TheVariants as pause

@@ -1,5 +1,6 @@
 // One turn: an instruction, the call of a pair site, a heap function, or an ending.
-ghost use Rattle.std.specs.Prelude.{◌≡◌, ◌≢◌, ◌<◌, ℕ, List, false, Some, None, IfSome, IfOk, IsSome, OnErr, length, unwrap_or};
+ghost use Rattle.std.specs.Prelude.{◌≡◌, ◌≢◌, ◌<◌, ℕ, List, false, Some, None, IfSome, IfOk, IsSome, OnErr, length};
+ghost use Rattle.std.specs.Prelude.{unwrap_or};
 ghost use Rattle.rv_isa.specs.Encoded.{NamesRegisters};
 ghost use Rattle.sym_spec.specs.SymMachine.{value_of};
 ghost use Rattle.sym_spec.specs.SymTurns.{acts, address_of, executes};

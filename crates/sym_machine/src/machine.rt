@@ -1,5 +1,6 @@
 // The symbol machine with its steps, and with reads that wait for their input.
-ghost use Rattle.std.specs.Prelude.{◌≡◌, ◌≢◌, ◌+◌, ◌<◌, ◌≤◌, ◌==◌, if◌then◌else◌, ℕ, List, [], ◌++◌, length, None, IfOk, OnErr, IsSome, IsSomeAnd, slice_index, take, drop, unwrap_or};
+ghost use Rattle.std.specs.Prelude.{◌≡◌, ◌≢◌, ◌+◌, ◌<◌, ◌≤◌, ◌==◌, if◌then◌else◌, ℕ, List, [], ◌++◌, length, None};
+ghost use Rattle.std.specs.Prelude.{IfOk, OnErr, IsSome, IsSomeAnd, slice_index, take, drop, unwrap_or};
 ghost use Rattle.site_spec.specs.Plans.{Fits};
 ghost use Rattle.sym_value.specs.declared.Value.{Value};
 ghost use Rattle.machine_run.specs.Machines.{Asks, fed_with};

@@ -6,7 +6,8 @@ ghost use Rattle.machine_spec.specs.Widths.{size_of};
 ghost use Rattle.sym_value.specs.declared.Value.{Value};
 ghost use Rattle.sym_spec.specs.SymMachine.{value_of};
 ghost use Rattle.sym_spec.specs.SymCalls.{word_in};
-ghost use Rattle.sym_spec.specs.SymNotes.{empty_note, access_to, uses_buffer, buffer_access, call_access, access_of, return_in, back_through};
+ghost use Rattle.sym_spec.specs.SymNotes.{empty_note, access_to, uses_buffer, buffer_access, call_access, access_of};
+ghost use Rattle.sym_spec.specs.SymNotes.{return_in, back_through};
 ghost use Rattle.sym_machine.specs.Found.{IsNoHeap, NamesThere};
 ghost use Rattle.sym_machine.specs.Turning.{call_noted, instr_noted, is_number, note_found};
 

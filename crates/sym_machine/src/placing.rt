@@ -8,7 +8,8 @@ ghost use Rattle.sym_value.specs.Places.{is_living};
 ghost use Rattle.sym_cells.specs.Memory.{copied, live_of};
 ghost use Rattle.sym_spec.specs.SymMachine.{SymMachine};
 ghost use Rattle.sym_spec.specs.HeapActions.{answers, grants, moves, releases};
-ghost use Rattle.sym_machine.specs.Placing.{block_lives, with_placed, without, machine_with, outcome_of, outcome_with, NamesLiving};
+ghost use Rattle.sym_machine.specs.Placing.{block_lives, with_placed, without, machine_with, outcome_of, outcome_with};
+ghost use Rattle.sym_machine.specs.Placing.{NamesLiving};
 
 use crate::reached::ImageMemory;
 use crate::requests::{Acted, Request};

@@ -1,13 +1,18 @@
 -- Laws of the calls of blocks, over their lives and buffers and what contracts see of them.
-use Rattle.std.proofs.Common.{◌≡◌, ◌≢◌, ℕ, zero, suc, ◌+◌, ◌-◌, ◌*◌, ◌/◌, ◌%◌, ◌<◌, ◌≤◌, List, [], ◌∷◌, ◌++◌, Bool, true, false, Option, Some, None, option_map, length, map, take, drop, replicate, nat_le, slice_get, slice_set, slice_index_or, refl, ap, ap₂, sym, ◌∙◌, subst, arith, length-append, length-drop, length-take-le, take_all, drop_of_length-le}
-use Rattle.std.proofs.lemmas.List.{length-replicate, take-append-drop, set-append_left, set-append_right, get_or-take, get_or-drop}
+use Rattle.std.proofs.Common.{◌≡◌, ◌≢◌, ℕ, zero, suc, ◌+◌, ◌-◌, ◌*◌, ◌/◌, ◌%◌, ◌<◌, ◌≤◌, List, [], ◌∷◌, ◌++◌, Bool}
+use Rattle.std.proofs.Common.{true, false, Option, Some, None, option_map, length, map, take, drop, replicate, nat_le}
+use Rattle.std.proofs.Common.{slice_get, slice_set, slice_index_or, refl, ap, ap₂, sym, ◌∙◌, subst, arith}
+use Rattle.std.proofs.Common.{length-append, length-drop, length-take-le, take_all, drop_of_length-le}
+use Rattle.std.proofs.lemmas.List.{length-replicate, take-append-drop, set-append_left, set-append_right, get_or-take}
+use Rattle.std.proofs.lemmas.List.{get_or-drop}
 use Rattle.std.proofs.lemmas.Bool.{le-leb}
 use Rattle.sym_value.specs.Places.{Lives, with_block, without_block, lives_in, capacity_in, is_living}
 use Rattle.sym_value.specs.declared.live.Life.{Life}
 use Rattle.sym_cells.specs.Cells.{Cell, blank_cell, zero_cell}
 use Rattle.sym_cells.specs.Memory.{Block, life_of, set_block, died, overlaid, overlaid_block}
 use Rattle.sym_memory.specs.Kept.{HeldBlocks, block_with, block_of, blocks_of, IsKept, AreKept, reaches, is_alive}
-use Rattle.sym_memory.proofs.KeptLaws.{same_element, length-blocks, lives_of_blocks, block_is, kept_at, Reached, reached, written, written_kept, kept_more, blocks_more, kept_dead, blocks_dead}
+use Rattle.sym_memory.proofs.KeptLaws.{same_element, length-blocks, lives_of_blocks, block_is, kept_at, Reached}
+use Rattle.sym_memory.proofs.KeptLaws.{reached, written, written_kept, kept_more, blocks_more, kept_dead, blocks_dead}
 
 abbrev pub held_with : List Block → ℕ → HeldBlocks
 held_with blocks end = record { blocks = blocks; end = end }

@@ -1,5 +1,7 @@
 -- Laws of blocks that are kept as lives and buffers.
-use Rattle.std.proofs.Common.{◌≡◌, ℕ, zero, suc, ◌+◌, ◌*◌, ◌/◌, ◌%◌, ◌<◌, ◌≤◌, List, [], ◌∷◌, ◌++◌, Bool, true, false, Option, Some, None, is_some, nat_le, length, map, replicate, slice_get, slice_set, slice_index_or, refl, ap, ap₂, sym, ◌∙◌, subst, arith}
+use Rattle.std.proofs.Common.{◌≡◌, ℕ, zero, suc, ◌+◌, ◌*◌, ◌/◌, ◌%◌, ◌<◌, ◌≤◌, List, [], ◌∷◌, ◌++◌, Bool, true, false}
+use Rattle.std.proofs.Common.{Option, Some, None, is_some, nat_le, length, map, replicate, slice_get, slice_set}
+use Rattle.std.proofs.Common.{slice_index_or, refl, ap, ap₂, sym, ◌∙◌, subst, arith}
 use Rattle.std.proofs.lemmas.List.{length-replicate}
 use Rattle.std.proofs.lemmas.Bool.{leb-true, le-leb}
 use Rattle.std.proofs.lemmas.Option.{slice_get_past, slice_get_within}
@@ -10,7 +12,8 @@ use Rattle.sym_value.specs.Places.{lives_in, capacity_in}
 use Rattle.sym_value.specs.declared.live.Life.{Life}
 use Rattle.sym_cells.specs.Cells.{Cell, blank_cell, cell_in, mark_at}
 use Rattle.sym_cells.specs.Moves.{load_at, store}
-use Rattle.sym_cells.specs.Memory.{Block, capacity_of, life_of, is_aligned, loaded_in, stored_in, number_in, known_in, set_block}
+use Rattle.sym_cells.specs.Memory.{Block, capacity_of, life_of, is_aligned, loaded_in, stored_in, number_in, known_in}
+use Rattle.sym_cells.specs.Memory.{set_block}
 use Rattle.sym_memory.specs.Kept.{block_with, block_of, blocks_of, IsKept, AreKept, reaches}
 
 pub same_length : (ks : List Life) (bs : List (List Cell)) → AreKept ks bs → length bs ≡ length ks

@@ -1,5 +1,6 @@
 -- What the definitions of symbol memory say of each kind of address.
-use Rattle.std.proofs.Common.{◌≡◌, ℕ, ◌+◌, ◌*◌, ◌%◌, ◌^◌, ◌∷◌, [], ◌++◌, Bool, true, false, cond, Option, Some, None, is_some, option_map, replicate, slice_get, slice_set, refl, ap, sym, ◌∙◌}
+use Rattle.std.proofs.Common.{◌≡◌, ℕ, ◌+◌, ◌*◌, ◌%◌, ◌^◌, ◌∷◌, [], ◌++◌, Bool, true, false, cond, Option, Some, None}
+use Rattle.std.proofs.Common.{is_some, option_map, replicate, slice_get, slice_set, refl, ap, sym, ◌∙◌}
 use Rattle.std.specs.Prelude.{◌&&◌, if◌then◌else◌}
 use Rattle.rv_isa.specs.declared.Width.{Width}
 use Rattle.machine_spec.specs.Widths.{size_of}
@@ -8,7 +9,9 @@ use Rattle.sym_value.specs.declared.Value.{Value}
 use Rattle.sym_value.specs.declared.Value.TheVariants.{Num, Ptr, Ret, Mix, Part, Unset}
 use Rattle.sym_cells.specs.Cells.{zero_cell, mark_at}
 use Rattle.sym_cells.specs.Moves.{load_at}
-use Rattle.sym_cells.specs.Memory.{Block, Memory, cell_at, is_aligned, loaded_in, loaded, store_plain, stored_in, stored, number_in, known_in, known, granted, died, set_block, dropped, overlaid_block, copied}
+use Rattle.sym_cells.specs.Memory.{Block, Memory, cell_at, is_aligned, loaded_in, loaded, store_plain, stored_in}
+use Rattle.sym_cells.specs.Memory.{stored, number_in, known_in, known, granted, died, set_block, dropped}
+use Rattle.sym_cells.specs.Memory.{overlaid_block, copied}
 use Rattle.sym_memory.specs.Held.{memory_after}
 
 -- neither a number nor a pointer

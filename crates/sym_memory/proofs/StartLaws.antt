@@ -1,5 +1,6 @@
 -- Laws of the cells of plain memory at the start.
-use Rattle.std.proofs.Common.{◌≡◌, ℕ, zero, suc, ◌+◌, ◌-◌, ◌*◌, ◌/◌, ◌≤◌, List, [], ◌∷◌, ◌++◌, refl, ap, ap₂, sym, ◌∙◌, arith}
+use Rattle.std.proofs.Common.{◌≡◌, ℕ, zero, suc, ◌+◌, ◌-◌, ◌*◌, ◌/◌, ◌≤◌, List, [], ◌∷◌, ◌++◌, refl, ap, ap₂, sym, ◌∙◌}
+use Rattle.std.proofs.Common.{arith}
 use Rattle.std.proofs.lemmas.List.{map-append}
 use Rattle.std.specs.Prelude.{Bool, map, filter, All, if◌then◌else◌}
 use Rattle.elf_spec.specs.declared.Segment.{Segment}
@@ -12,7 +13,8 @@ use Rattle.sym_cells.specs.declared.Mark.TheVariants.{Blank}
 use Rattle.sym_cells.specs.Cells.{Cell, Bytes}
 use Rattle.sym_cells.specs.Memory.{Span, Block, Memory}
 use Rattle.sym_spec.specs.Plain.{is_plain}
-use Rattle.sym_spec.specs.StartMemory.{mark_of, start_mark, start_cell, cells_from, segment_span, span_over, start_memory}
+use Rattle.sym_spec.specs.StartMemory.{mark_of, start_mark, start_cell, cells_from, segment_span, span_over}
+use Rattle.sym_spec.specs.StartMemory.{start_memory}
 use Rattle.sym_memory.specs.declared.parts.PlainPart.{PlainPart}
 use Rattle.sym_memory.specs.declared.spans.PlainSpan.{PlainSpan}
 use Rattle.sym_memory.specs.Parts.{is_plain_in, span_of, spans_of}

@@ -1,5 +1,6 @@
 -- How blocks are kept: the lives of all, and beside each a buffer with its cells, empty once it is dead.
-use Rattle.std.specs.Prelude.{◌≡◌, ℕ, ◌*◌, ◌/◌, ◌%◌, List, [], ◌∷◌, Bool, true, false, Option, Some, None, if◌then◌else◌, length, replicate, slice_get}
+use Rattle.std.specs.Prelude.{◌≡◌, ℕ, ◌*◌, ◌/◌, ◌%◌, List, [], ◌∷◌, Bool, true, false, Option, Some, None}
+use Rattle.std.specs.Prelude.{if◌then◌else◌, length, replicate, slice_get}
 use Rattle.sym_value.specs.declared.live.Life.{Life}
 use Rattle.sym_cells.specs.Cells.{Cell, blank_cell}
 use Rattle.sym_cells.specs.Buffers.{is_inside_one}

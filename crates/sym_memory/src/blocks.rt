@@ -1,5 +1,6 @@
 // The blocks of a run with their public calls, each over their lives and buffers.
-ghost use Rattle.std.specs.Prelude.{◌≡◌, ◌≢◌, ◌*◌, ◌<◌, ◌≤◌, [], ◌∷◌, ◌++◌, true, is_some, length, map, option_map, replicate, IfOk, OnErr, slice_get};
+ghost use Rattle.std.specs.Prelude.{◌≡◌, ◌≢◌, ◌*◌, ◌<◌, ◌≤◌, [], ◌∷◌, ◌++◌, true, is_some, length, map, option_map};
+ghost use Rattle.std.specs.Prelude.{replicate, IfOk, OnErr, slice_get};
 ghost use Rattle.sym_cells.specs.Memory.{life_of, loaded_in, stored_in, known_in, set_block, overlaid_block, died};
 ghost use Rattle.sym_cells.specs.Buffers.{is_inside_one};
 ghost use Rattle.sym_cells.specs.Cells.{zero_cell};

@@ -1,5 +1,6 @@
 // The cells of an image's plain bytes: a span for each loaded segment and one for the stack.
-ghost use Rattle.std.specs.Prelude.{◌≡◌, ◌+◌, ◌*◌, ◌<◌, ◌≤◌, ◌^◌, [], ◌∷◌, ◌++◌, map, filter, All, IfOk, OnOk, if◌then◌else◌};
+ghost use Rattle.std.specs.Prelude.{◌≡◌, ◌+◌, ◌*◌, ◌<◌, ◌≤◌, ◌^◌, [], ◌∷◌, ◌++◌, map, filter, All, IfOk, OnOk};
+ghost use Rattle.std.specs.Prelude.{if◌then◌else◌};
 ghost use Rattle.elf_spec.specs.Memory.{is_loaded, image_end};
 ghost use Rattle.machine_spec.specs.Memory.{stack_start, stack_size, byte_of};
 ghost use Rattle.sym_cells.specs.declared.Mark.TheVariants.{Blank as BlankMark};

@@ -1,5 +1,6 @@
 // Blocks as their lives and buffers: which bytes can be reached, and loads and stores of them.
-ghost use Rattle.std.specs.Prelude.{◌≡◌, ◌+◌, ◌^◌, ◌<◌, ◌≢◌, [], length, slice_set, slice_index_or, true, is_some, slice_get};
+ghost use Rattle.std.specs.Prelude.{◌≡◌, ◌+◌, ◌^◌, ◌<◌, ◌≢◌, [], length, slice_set, slice_index_or, true, is_some};
+ghost use Rattle.std.specs.Prelude.{slice_get};
 ghost use Rattle.machine_spec.specs.Widths.{size_of};
 ghost use Rattle.sym_cells.specs.Memory.{is_aligned, loaded_in, stored_in, known_in, set_block, overlaid};
 ghost use Rattle.sym_memory.specs.Kept.{blocks_of, AreKept, reaches};

@@ -1,6 +1,7 @@
 -- The shadow stack of a run, and the contexts of its grants: the sites that were called and not yet left,
 -- and which of them tell a grant from another.
-use Rattle.std.specs.Prelude.{ℕ, ◌==◌, ◌&&◌, not, if◌then◌else◌, Bool, List, [], ◌∷◌, ◌++◌, Option, Some, None, filter, map}
+use Rattle.std.specs.Prelude.{ℕ, ◌==◌, ◌&&◌, not, if◌then◌else◌, Bool, List, [], ◌∷◌, ◌++◌, Option, Some, None, filter}
+use Rattle.std.specs.Prelude.{map}
 use Rattle.std.specs.List.{list_any}
 use Rattle.site_spec.specs.declared.Site.{Site}
 use Rattle.site_spec.specs.Sites.{site_at}

@@ -1,8 +1,10 @@
 -- The heap functions on the symbol machine. At the entry of each the whole action is one turn, whatever
 -- code stands there. Blocks are placed by the rows of the plan, over the bits at that moment.
-use Rattle.std.specs.Prelude.{ℕ, ◌+◌, ◌*◌, ◌==◌, List, [], ◌∷◌, ◌++◌, Bool, false, ◌&&◌, Option, Some, None, is_some, find, if◌then◌else◌, length, slice_index, slice_set}
+use Rattle.std.specs.Prelude.{ℕ, ◌+◌, ◌*◌, ◌==◌, List, [], ◌∷◌, ◌++◌, Bool, false, ◌&&◌, Option, Some, None, is_some}
+use Rattle.std.specs.Prelude.{find, if◌then◌else◌, length, slice_index, slice_set}
 use Rattle.elf_spec.specs.declared.HeapName.{HeapName}
-use Rattle.elf_spec.specs.declared.HeapName.TheVariants.{Malloc, Calloc, Realloc, Free, MallocR, CallocR, ReallocR, FreeR}
+use Rattle.elf_spec.specs.declared.HeapName.TheVariants.{Malloc, Calloc, Realloc, Free, MallocR, CallocR, ReallocR}
+use Rattle.elf_spec.specs.declared.HeapName.TheVariants.{FreeR}
 use Rattle.elf_spec.specs.Code.{code_word}
 use Rattle.elf_spec.specs.Heap.{heap_names, heap_entry}
 use Rattle.plan_core.specs.declared.types.Plan.{Plan}

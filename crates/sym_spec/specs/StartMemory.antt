@@ -1,6 +1,7 @@
 -- The memory with which the symbol machine starts: every plain byte is known, and there are no blocks.
 -- Plain memory has a span of cells for each loaded segment and one for the stack.
-use Rattle.std.specs.Prelude.{ℕ, zero, suc, ◌+◌, ◌-◌, ◌*◌, ◌/◌, List, [], ◌∷◌, ◌++◌, filter, map, Option, Some, None, if◌then◌else◌}
+use Rattle.std.specs.Prelude.{ℕ, zero, suc, ◌+◌, ◌-◌, ◌*◌, ◌/◌, List, [], ◌∷◌, ◌++◌, filter, map, Option, Some, None}
+use Rattle.std.specs.Prelude.{if◌then◌else◌}
 use Rattle.elf_spec.specs.declared.Segment.{Segment}
 use Rattle.elf_spec.specs.Memory.{is_loaded}
 use Rattle.elf_spec.specs.Records.{segments_of}

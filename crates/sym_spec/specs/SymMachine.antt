@@ -1,5 +1,7 @@
 -- The symbol machine between two turns, and the ways in which a step changes it.
-use Rattle.std.specs.Prelude.{ℕ, ◌-◌, ◌^◌, ◌==◌, List, [], Bool, false, Option, Some, None, is_some, find, position, map, if◌then◌else◌, slice_get, slice_index_or, slice_set, bit_and, bit_or, option_and_then}
+use Rattle.std.specs.Prelude.{ℕ, ◌-◌, ◌^◌, ◌==◌, List, [], Bool, false, Option, Some, None, is_some, find, position}
+use Rattle.std.specs.Prelude.{map, if◌then◌else◌, slice_get, slice_index_or, slice_set, bit_and, bit_or}
+use Rattle.std.specs.Prelude.{option_and_then}
 use Rattle.elf_spec.specs.Code.{code_word}
 use Rattle.elf_spec.specs.Memory.{image_end}
 use Rattle.elf_spec.specs.Records.{e_entry, segments_of}

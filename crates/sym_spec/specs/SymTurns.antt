@@ -1,9 +1,11 @@
 -- One turn of the symbol machine: one instruction, or the call of a pair site, or the whole action of a
 -- heap function, or an ending.
-use Rattle.std.specs.Prelude.{ℕ, ◌+◌, ◌-◌, ◌*◌, ◌/◌, ◌==◌, List, Bool, true, false, ◌&&◌, ◌||◌, Option, Some, None, nat_le, if◌then◌else◌}
+use Rattle.std.specs.Prelude.{ℕ, ◌+◌, ◌-◌, ◌*◌, ◌/◌, ◌==◌, List, Bool, true, false, ◌&&◌, ◌||◌, Option, Some, None}
+use Rattle.std.specs.Prelude.{nat_le, if◌then◌else◌}
 use Rattle.std.specs.List.{list_any}
 use Rattle.rv_isa.specs.declared.Instr.{Instr}
-use Rattle.rv_isa.specs.declared.Instr.TheVariants.{Lui, Auipc, Jal, Jalr, Branch, Load, Store, OpImm, Reg, Fence, Ecall, Ebreak}
+use Rattle.rv_isa.specs.declared.Instr.TheVariants.{Lui, Auipc, Jal, Jalr, Branch, Load, Store, OpImm, Reg, Fence}
+use Rattle.rv_isa.specs.declared.Instr.TheVariants.{Ecall, Ebreak}
 use Rattle.rv_isa.specs.declared.Op.TheVariants.{Add}
 use Rattle.rv_isa.specs.Table.{decoded}
 use Rattle.elf_spec.specs.declared.HeapName.{HeapName}
@@ -22,7 +24,8 @@ use Rattle.sym_value.specs.Decisions.{decide}
 use Rattle.sym_value.specs.Operations.{apply}
 use Rattle.sym_cells.specs.Memory.{loaded, stored}
 use Rattle.sym_spec.specs.Plain.{is_plain, is_plain_store}
-use Rattle.sym_spec.specs.SymMachine.{SymMachine, lives_of, value_of, gives, passes, ends, faults, loads, stores, goes_to, jumps, calls_from, goes_back}
+use Rattle.sym_spec.specs.SymMachine.{SymMachine, lives_of, value_of, gives, passes, ends, faults, loads, stores}
+use Rattle.sym_spec.specs.SymMachine.{goes_to, jumps, calls_from, goes_back}
 use Rattle.sym_spec.specs.SymCalls.{SymTurn, quiet, calls}
 use Rattle.sym_spec.specs.HeapActions.{function_at, serves}
 

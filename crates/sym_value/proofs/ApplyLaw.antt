@@ -6,7 +6,12 @@ use Rattle.sym_value.specs.declared.Value.{Value}
 use Rattle.sym_value.specs.Places.{Lives}
 use Rattle.sym_value.specs.Operations.{otherwise, apply}
 use Rattle.sym_value.specs.Standing.{Holds, Placed}
-use Rattle.sym_value.proofs.RowLaws.{either, of_numbers_holds, right_zero_holds, left_zero_holds, moved_up_holds, moved_down_holds, distance_holds, distance_of_blocks_holds, outer_less_pointer_holds, xor_in_block_holds, xor_of_blocks_holds, xor_with_outer_holds, or_of_pointers_holds, or_with_number_holds, or_of_mix_holds, low_bits_holds, rounded_down_holds, low_bits_of_mix_holds, whole_byte_holds, compared_holds}
+use Rattle.sym_value.proofs.RowLaws.{either, of_numbers_holds, right_zero_holds, left_zero_holds, moved_up_holds}
+use Rattle.sym_value.proofs.RowLaws.{moved_down_holds, distance_holds, distance_of_blocks_holds}
+use Rattle.sym_value.proofs.RowLaws.{outer_less_pointer_holds, xor_in_block_holds, xor_of_blocks_holds}
+use Rattle.sym_value.proofs.RowLaws.{xor_with_outer_holds, or_of_pointers_holds, or_with_number_holds, or_of_mix_holds}
+use Rattle.sym_value.proofs.RowLaws.{low_bits_holds, rounded_down_holds, low_bits_of_mix_holds, whole_byte_holds}
+use Rattle.sym_value.proofs.RowLaws.{compared_holds}
 
 -- the first row that fits, or what stands below it
 first : (o : Option Value) (rest : Value) (P : Value → Type 0) → ((x : Value) → o ≡ Some x → P x) → (o ≡ None → P rest)

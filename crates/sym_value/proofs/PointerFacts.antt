@@ -1,8 +1,10 @@
 -- Where the words of pointers lie, out of what the tests of the tables say.
-use Rattle.std.proofs.Common.{◌≡◌, ◌≢◌, ◌⊎◌, ℕ, ◌+◌, ◌-◌, ◌^◌, ◌<◌, ◌≤◌, true, false, List, Option, Some, None, slice_get, slice_index, refl, inl, inr, ⊎_elim, arith}
+use Rattle.std.proofs.Common.{◌≡◌, ◌≢◌, ◌⊎◌, ℕ, ◌+◌, ◌-◌, ◌^◌, ◌<◌, ◌≤◌, true, false, List, Option, Some, None}
+use Rattle.std.proofs.Common.{slice_get, slice_index, refl, inl, inr, ⊎_elim, arith}
 use Rattle.std.proofs.lemmas.Bool.{and_parts, or_cases, ltb-true, leb-true, le-ltb, lt-leb}
 use Rattle.sym_value.specs.declared.live.Life.{Life}
-use Rattle.sym_value.specs.Places.{Lives, is_inner, is_inner_of, is_on, is_on_of, is_near, is_near_of, shifted, is_low, is_high, is_outer}
+use Rattle.sym_value.specs.Places.{Lives, is_inner, is_inner_of, is_on, is_on_of, is_near, is_near_of, shifted, is_low}
+use Rattle.sym_value.specs.Places.{is_high, is_outer}
 use Rattle.sym_value.specs.Standing.{Placed, IsPlaced, area_start, area_end, address}
 
 -- the word lies in the area of the blocks

@@ -1,5 +1,7 @@
 -- The rows of the table of operations: each gives a value that stands for the operation's word.
-use Rattle.std.proofs.Common.{◌≡◌, ◌≢◌, ℕ, ◌+◌, ◌-◌, ◌*◌, ◌/◌, ◌%◌, ◌^◌, ◌<◌, ◌≤◌, Bool, true, false, List, Option, Some, None, slice_index, nat_eq, bit_and, bit_or, bit_xor, refl, ap, ap₂, sym, subst, ◌∙◌, ⊎_elim, arith, if◌then◌else◌}
+use Rattle.std.proofs.Common.{◌≡◌, ◌≢◌, ℕ, ◌+◌, ◌-◌, ◌*◌, ◌/◌, ◌%◌, ◌^◌, ◌<◌, ◌≤◌, Bool, true, false, List, Option}
+use Rattle.std.proofs.Common.{Some, None, slice_index, nat_eq, bit_and, bit_or, bit_xor, refl, ap, ap₂, sym, subst, ◌∙◌}
+use Rattle.std.proofs.Common.{⊎_elim, arith, if◌then◌else◌}
 use Rattle.std.proofs.lemmas.Bool.{and_parts, eqb-true, eqb-false, leb-true, not-true}
 use Rattle.std.proofs.lemmas.Int.{of_z-to_z}
 use Rattle.std.proofs.lemmas.Nat.{and_mask}
@@ -15,9 +17,15 @@ use Rattle.sym_value.specs.declared.Value.{Value}
 use Rattle.sym_value.specs.declared.Value.TheVariants.{Num, Ptr, Mix, Part}
 use Rattle.sym_value.specs.Places.{Lives}
 use Rattle.sym_value.specs.Decisions.{where_so, or_else, decide}
-use Rattle.sym_value.specs.Operations.{Row, turned, either_way, is_zero, difference, of_numbers, right_zero, left_zero, moved_up, moved_down, distance, distance_of_blocks, outer_less_pointer, xor_in_block, xor_of_blocks, xor_with_outer, or_of_pointers, or_with_number, or_of_mix, low_bits, rounded_down, low_bits_of_mix, whole_byte, flag_of, compared}
+use Rattle.sym_value.specs.Operations.{Row, turned, either_way, is_zero, difference, of_numbers, right_zero, left_zero}
+use Rattle.sym_value.specs.Operations.{moved_up, moved_down, distance, distance_of_blocks, outer_less_pointer}
+use Rattle.sym_value.specs.Operations.{xor_in_block, xor_of_blocks, xor_with_outer, or_of_pointers, or_with_number}
+use Rattle.sym_value.specs.Operations.{or_of_mix, low_bits, rounded_down, low_bits_of_mix, whole_byte, flag_of}
+use Rattle.sym_value.specs.Operations.{compared}
 use Rattle.sym_value.specs.Standing.{Holds, Stands, Placed, address}
-use Rattle.sym_value.proofs.WordFacts.{sum_moves, difference_moves, difference_stays, equality_stays, low_bits_stay, difference_low, difference_nonzero, xor_low, xor_nonzero, or_low, or_nonzero_left, or_nonzero_right, and_low, and_moves, and_small}
+use Rattle.sym_value.proofs.WordFacts.{sum_moves, difference_moves, difference_stays, equality_stays, low_bits_stay}
+use Rattle.sym_value.proofs.WordFacts.{difference_low, difference_nonzero, xor_low, xor_nonzero, or_low}
+use Rattle.sym_value.proofs.WordFacts.{or_nonzero_left, or_nonzero_right, and_low, and_moves, and_small}
 use Rattle.sym_value.proofs.PointerFacts.{OnWord, NearWord, on_word, near_word, outer_apart, inner_apart}
 use Rattle.sym_value.proofs.TestLaws.{so, or_else_cases, decide_holds}
 

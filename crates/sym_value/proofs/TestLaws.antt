@@ -1,5 +1,7 @@
 -- The rows of the table of conditions hold of the words that stand for the values.
-use Rattle.std.proofs.Common.{◌≡◌, ◌≢◌, ◌⊎◌, ℕ, ◌^◌, ◌<◌, ◌≤◌, Bool, true, false, not, List, Option, Some, None, option_map, slice_index, nat_eq, nat_lt, int_lt, refl, ap, ap₂, sym, subst, ◌∙◌, inl, inr, ⊎_elim, arith}
+use Rattle.std.proofs.Common.{◌≡◌, ◌≢◌, ◌⊎◌, ℕ, ◌^◌, ◌<◌, ◌≤◌, Bool, true, false, not, List, Option, Some, None}
+use Rattle.std.proofs.Common.{option_map, slice_index, nat_eq, nat_lt, int_lt, refl, ap, ap₂, sym, subst, ◌∙◌, inl, inr}
+use Rattle.std.proofs.Common.{⊎_elim, arith}
 use Rattle.std.proofs.lemmas.Bool.Decides.{nat_tests}
 use Rattle.std.proofs.lemmas.Bool.{and_parts, eqb-true, eqb-false, ne_eqb, lt-ltb, le-ltb, leb-true, not-true}
 use Rattle.rv_isa.specs.declared.Cond.{Cond}
@@ -8,10 +10,13 @@ use Rattle.rv_isa.specs.Compute.{is_held, signed}
 use Rattle.sym_value.specs.declared.Value.{Value}
 use Rattle.sym_value.specs.declared.Value.TheVariants.{Num, Ptr, Mix}
 use Rattle.sym_value.specs.Places.{Lives, shifted}
-use Rattle.sym_value.specs.Decisions.{where_so, or_else, Test, either_way_test, same_block, other_block, apart_from_outer, near_is_not_zero, mix_is_not_zero, equal, near_order, on_low, low_on, on_high, high_on, not_below_one, zero_below, below, decided, decide}
+use Rattle.sym_value.specs.Decisions.{where_so, or_else, Test, either_way_test, same_block, other_block}
+use Rattle.sym_value.specs.Decisions.{apart_from_outer, near_is_not_zero, mix_is_not_zero, equal, near_order, on_low}
+use Rattle.sym_value.specs.Decisions.{low_on, on_high, high_on, not_below_one, zero_below, below, decided, decide}
 use Rattle.sym_value.specs.Standing.{Holds, Placed, address}
 use Rattle.sym_value.proofs.WordFacts.{test_stays, order_stays}
-use Rattle.sym_value.proofs.PointerFacts.{OnWord, NearWord, on_word, near_word, below_low, above_high, outer_apart, inner_apart}
+use Rattle.sym_value.proofs.PointerFacts.{OnWord, NearWord, on_word, near_word, below_low, above_high, outer_apart}
+use Rattle.sym_value.proofs.PointerFacts.{inner_apart}
 
 -- what a row says where it fits
 pub so : {A : Type 0} (t : Bool) (x y : A) → where_so t x ≡ Some y → (t ≡ true) × (x ≡ y)

@@ -1,6 +1,7 @@
 -- Where pointers and numbers may lie, as far as values know it: of a block its capacity and whether it
 -- lives, of the image its end, and never the address of a block. Offsets are words.
-use Rattle.std.specs.Prelude.{ℕ, ◌+◌, ◌-◌, ◌%◌, ◌^◌, List, [], ◌∷◌, ◌++◌, Bool, true, false, ◌&&◌, ◌||◌, Option, Some, None, nat_le, nat_lt, max, slice_get, slice_set}
+use Rattle.std.specs.Prelude.{ℕ, ◌+◌, ◌-◌, ◌%◌, ◌^◌, List, [], ◌∷◌, ◌++◌, Bool, true, false, ◌&&◌, ◌||◌, Option, Some}
+use Rattle.std.specs.Prelude.{None, nat_le, nat_lt, max, slice_get, slice_set}
 use Rattle.sym_value.specs.declared.live.Life.{Life}
 
 -- the blocks so far by their names, which count from 0, and the end of the image

@@ -1,6 +1,7 @@
 -- Which words stand for a value, under a map of return addresses (`back`) and the list of the blocks'
 -- addresses (`at`), and where blocks lie so that the tables of operations and decisions are right.
-use Rattle.std.specs.Prelude.{◌≡◌, ◌≢◌, ◌⊎◌, ℕ, ◌+◌, ◌/◌, ◌%◌, ◌^◌, ◌<◌, ◌≤◌, List, length, true, Some, max, slice_get, slice_index}
+use Rattle.std.specs.Prelude.{◌≡◌, ◌≢◌, ◌⊎◌, ℕ, ◌+◌, ◌/◌, ◌%◌, ◌^◌, ◌<◌, ◌≤◌, List, length, true, Some, max, slice_get}
+use Rattle.std.specs.Prelude.{slice_index}
 use Rattle.sym_value.specs.declared.Value.{Value}
 use Rattle.sym_value.specs.declared.Value.TheVariants.{Num, Ptr, Ret, Mix, Part, Unset}
 use Rattle.sym_value.specs.declared.Whole.{Whole}

@@ -1,6 +1,8 @@
 // The blocks of a run by their names, and where pointers and numbers may lie.
-ghost use Rattle.std.specs.Prelude.{◌≡◌, ◌<◌, ◌≤◌, ◌+◌, ◌^◌, ◌++◌, ◌∷◌, [], true, false, length, IfOk, OnErr, slice_set, Some, slice_get};
-ghost use Rattle.sym_value.specs.Places.{no_blocks, with_block, without_block, capacity_of, is_living, is_inner, is_on, is_near, is_low, is_high, is_outer};
+ghost use Rattle.std.specs.Prelude.{◌≡◌, ◌<◌, ◌≤◌, ◌+◌, ◌^◌, ◌++◌, ◌∷◌, [], true, false, length, IfOk, OnErr};
+ghost use Rattle.std.specs.Prelude.{slice_set, Some, slice_get};
+ghost use Rattle.sym_value.specs.Places.{no_blocks, with_block, without_block, capacity_of, is_living, is_inner, is_on};
+ghost use Rattle.sym_value.specs.Places.{is_near, is_low, is_high, is_outer};
 
 use std::alloc::{AllocError, Global};
 use std::marker::Model;

@@ -1,7 +1,8 @@
 // Laws of the readers and printers, each an empty function whose contract is proved.
 ghost use Rattle.std.specs.Prelude.{◌≡◌, ◌≢◌, ◌<◌, ◌≤◌, ◌^◌, ◌++◌, ◌∷◌, ◌↔◌, ℕ, List, Some, None, All};
 ghost use Rattle.std.specs.Fmt.{decimal};
-ghost use Rattle.text_fields.specs.Reading.{after_front, cut_at, number_of, number_at, leading_at, GoesOnWithNoDigit, hex_at};
+ghost use Rattle.text_fields.specs.Reading.{after_front, cut_at, number_of, number_at, leading_at, GoesOnWithNoDigit};
+ghost use Rattle.text_fields.specs.Reading.{hex_at};
 ghost use Rattle.text_fields.specs.Writing.{hex8};
 
 /// A number is read exactly where it is written and within the limit: as a whole word, before an end

@@ -1,6 +1,7 @@
 // Readers of the front of a text: each gives the value that stands there and the rest of the text.
 ghost use Rattle.std.specs.Prelude.{◌≡◌, ◌<◌, ◌≤◌, ◌^◌, IfSome};
-ghost use Rattle.text_fields.specs.Reading.{Finds, after_front, cut_at, number_of, number_at, digits_at, leading_at, hex_value, hex_at};
+ghost use Rattle.text_fields.specs.Reading.{Finds, after_front, cut_at, number_of, number_at, digits_at, leading_at};
+ghost use Rattle.text_fields.specs.Reading.{hex_value, hex_at};
 
 /// The rest of `bytes` behind `front`, or none where `bytes` doesn't begin with it.
 #[tactic(auto, unfolding(crate::specs::Reading::after_front))]

@@ -1,5 +1,6 @@
 -- The chosen sites on a context are those in the stack, where they are near.
-use Rattle.std.proofs.Common.{◌≡◌, ◌∙◌, ℕ, ◌==◌, ◌||◌, Bool, true, false, List, [], ◌∷◌, ◌<◌, get_or, length, refl, sym, ap, subst, Some}
+use Rattle.std.proofs.Common.{◌≡◌, ◌∙◌, ℕ, ◌==◌, ◌||◌, Bool, true, false, List, [], ◌∷◌, ◌<◌, get_or, length, refl, sym}
+use Rattle.std.proofs.Common.{ap, subst, Some}
 use Rattle.std.specs.Prelude.{All, filter, if◌then◌else◌, map}
 use Rattle.std.specs.List.{list_any}
 use Rattle.std.proofs.lemmas.Bool.{eqb-true}

@@ -1,5 +1,6 @@
 -- Tidy runs, and the chosen sites that are in the shadow stack and on the context of a grant.
-use Rattle.std.specs.Prelude.{◌≡◌, ◌↔◌, ◌<◌, ◌==◌, ℕ, zero, suc, true, false, List, [], ◌∷◌, ◌++◌, Bool, All, Any, IsBitSet, IsSome, Some}
+use Rattle.std.specs.Prelude.{◌≡◌, ◌↔◌, ◌<◌, ◌==◌, ℕ, zero, suc, true, false, List, [], ◌∷◌, ◌++◌, Bool, All, Any}
+use Rattle.std.specs.Prelude.{IsBitSet, IsSome, Some}
 use Rattle.std.specs.List.{list_any}
 use Rattle.plan_core.specs.declared.types.PlanLine.{PlanLine}
 use Rattle.site_spec.specs.declared.Site.{Site}

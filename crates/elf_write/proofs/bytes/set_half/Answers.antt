@@ -7,5 +7,7 @@ use Rattle.elf_write.proofs.bytes.set_half.Goals as goal
 
 pub returns : goal.returns
 returns c =
-    let written : put_mid c.args.at (c.args.at + 2 - c.args.at) c.args.bytes.now c.write_u16.new.buf ≡ (take c.args.at c.args.bytes.now ++ little_bytes 2 c.args.number) ++ drop (c.args.at + 2) c.args.bytes.now = grind (arith, common_steps) in
+    let written : put_mid c.args.at (c.args.at + 2 - c.args.at) c.args.bytes.now c.write_u16.new.buf
+    ≡ (take c.args.at c.args.bytes.now ++ little_bytes 2 c.args.number) ++ drop (c.args.at + 2) c.args.bytes.now =
+    grind (arith, common_steps) in
     written ∙ sym (put_half-parts c.args.at c.args.number c.args.bytes.now c.requires c.ranges.number.fits)

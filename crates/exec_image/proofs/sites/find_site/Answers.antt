@@ -5,7 +5,8 @@ use Rattle.std.proofs.lemmas.List.{get_or_default}
 use Rattle.std.proofs.lemmas.List.Sorted.{IsPartitionPoint-from_clause, IsPartitionedBy-ltb}
 use Rattle.exec_image.proofs.SiteSteps.{above_of, absent, below_of, rising}
 use Rattle.exec_image.proofs.sites.find_site.Goals as goal
-use Rattle.exec_image.proofs.sites.find_site.Goals.{else-i-sites-via-then-i-sites+else-sites-i, else-i-sites-via-else-i-sites}
+use Rattle.exec_image.proofs.sites.find_site.Goals.{else-i-sites-via-then-i-sites+else-sites-i}
+use Rattle.exec_image.proofs.sites.find_site.Goals.{else-i-sites-via-else-i-sites}
 
 pub returns-else-i-sites : goal.returns-else-i-sites
 returns-else-i-sites c =

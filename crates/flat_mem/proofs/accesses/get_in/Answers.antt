@@ -13,17 +13,20 @@ returns-in_err-area c =
 
 pub place_of-requires-clause-has : goal.place_of-requires-clause-has
 place_of-requires-clause-has c =
-    let f : IsFound c.args.addr 0 (length c.args.bytes.now) c.in_ok-area.area = found _ _ _ _ _ c.requires.parts (sym c.in_ok-area.ensures) in
+    let f : IsFound c.args.addr 0 (length c.args.bytes.now) c.in_ok-area.area =
+    found _ _ _ _ _ c.requires.parts (sym c.in_ok-area.ensures) in
     f.has
 
 pub place_of-requires-clause-fits : goal.place_of-requires-clause-fits
 place_of-requires-clause-fits c =
-    let f : IsFound c.args.addr 0 (length c.args.bytes.now) c.in_ok-area.area = found _ _ _ _ _ c.requires.parts (sym c.in_ok-area.ensures) in
+    let f : IsFound c.args.addr 0 (length c.args.bytes.now) c.in_ok-area.area =
+    found _ _ _ _ _ c.requires.parts (sym c.in_ok-area.ensures) in
     omega (arith, f.inside)
 
 pub bounds-bytes-place_of : goal.bounds-bytes-place_of
 bounds-bytes-place_of c =
-    let f : IsFound c.args.addr 0 (length c.args.bytes.now) c.in_ok-area.area = found _ _ _ _ _ c.requires.parts (sym c.in_ok-area.ensures) in
+    let f : IsFound c.args.addr 0 (length c.args.bytes.now) c.in_ok-area.area =
+    found _ _ _ _ _ c.requires.parts (sym c.in_ok-area.ensures) in
     omega (arith, f.inside, f.low, f.high)
 
 pub returns : goal.returns

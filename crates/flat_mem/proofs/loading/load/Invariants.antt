@@ -11,5 +11,6 @@ abbrev pub invariant-loop-segment : goal.invariant-loop-segment
 invariant-loop-segment l = record {
   parts : FillsFrom 0 l.areas.items (length l.bytes.items);
   long : length l.bytes.items ≡ memory_size (take l.segment-index l.segments);
-  so_far : ranges l.areas.items l.bytes.items ≡ map (range_of l.file) (filter is_loaded (take l.segment-index l.segments));
+  so_far : ranges l.areas.items l.bytes.items ≡ map (range_of l.file)
+      (filter is_loaded (take l.segment-index l.segments));
 }

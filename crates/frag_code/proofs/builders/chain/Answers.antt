@@ -10,4 +10,5 @@ pub loop-part-preserved : goal.loop-part-preserved
 loop-part-preserved c =
     ap (chained_onto (map plain c.pop.new.self.items)) c.in_ok-all.ensures
     ∙ (sym (onto_last c.pop.new.self.items c.in-Some.part (plain c.loop-part.all))
-    ∙ (ap (λ x. chained_onto (map plain x) (plain c.loop-part.all)) (sym c.in-Some.ensures.items) ∙ c.loop-part.invariant))
+    ∙ (ap (λ x. chained_onto (map plain x) (plain c.loop-part.all)) (sym c.in-Some.ensures.items)
+    ∙ c.loop-part.invariant))

@@ -9,7 +9,17 @@ use Rattle.group_policy.proofs.densities.density.Goals as goal
 -- what `gain` answers is the density
 gained : (c : goal.After-gain) → c.gain.result ≡ density_of c.args.cut
 unfolding density_of
-gained c = simp (c.gain.ensures, c.score-both.ensures.value, c.max.ensures, c.score-group.ensures.value, c.score-node.ensures.value, c.places_of.ensures.value, c.places_of-2.ensures.value, c.places_of-3.ensures.value, c.loops_of-own_loop.ensures)
+gained c = simp (
+  c.gain.ensures,
+  c.score-both.ensures.value,
+  c.max.ensures,
+  c.score-group.ensures.value,
+  c.score-node.ensures.value,
+  c.places_of.ensures.value,
+  c.places_of-2.ensures.value,
+  c.places_of-3.ensures.value,
+  c.loops_of-own_loop.ensures,
+)
 
 pub returns-clause-value : goal.returns-clause-value
 returns-clause-value c = to_z-of_z w128 c.gain.result (search rules) ∙ gained c

@@ -26,7 +26,8 @@ loop-edge-preserved c y h =
       | in-Some w ↦
           let below = end_below _ c.args.edges.now c.loop-edge.edge-index w.in-Some.other _ c.requires.edges
           c.loop-edge-test.true w.in-Some.ensures.an_end in
-          rw w.cross-is (added c.loop-edge.cross c.args.cross.now c.args.edges.now c.loop-edge.edge-index c.args.context y
+          rw w.cross-is (added c.loop-edge.cross c.args.cross.now c.args.edges.now c.loop-edge.edge-index c.args.context
+          y
           w.in-Some.other _ c.loop-edge-test.true (omega (arith, below)) so (w.in-Some.ensures.some y))
       | in_default w ↦
           rw w.cross-is (unchanged c.loop-edge.cross c.args.cross.now c.args.edges.now c.loop-edge.edge-index

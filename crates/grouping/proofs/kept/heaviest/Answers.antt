@@ -9,11 +9,13 @@ loop-edge-preserved c = let t = heaviest_found in
     elim c.if-is_idle.branch [
       | then-is_idle w ↦ let idle = c.is_idle.ensures.0 w.if-is_idle.true in
           rw (w.best-is, w.heavier-best.ensures)
-          (heaviest_more c.args.edges.now c.args.busy.now c.loop-edge.edge-index _ c.loop-edge-test.true c.loop-edge.best idle
+          (heaviest_more c.args.edges.now c.args.busy.now c.loop-edge.edge-index _ c.loop-edge-test.true
+          c.loop-edge.best idle
           c.requires.edges.ascending c.loop-edge.invariant)
       | else-is_idle w ↦
           rw w.best-is
-          (heaviest_skip c.args.edges.now c.args.busy.now c.loop-edge.edge-index _ c.loop-edge-test.true c.loop-edge.best
+          (heaviest_skip c.args.edges.now c.args.busy.now c.loop-edge.edge-index _ c.loop-edge-test.true
+          c.loop-edge.best
           (λ idle. both_ways c.is_idle.result w.if-is_idle.false (c.is_idle.ensures.1 idle)) c.loop-edge.invariant)
     ]
 

@@ -9,8 +9,10 @@ overflow_add-index_mut c =
     let joins = c.requires.edges.joins i record { low = 0; high = 0; weight = 0 } c.loop-edge-test.true in
     let e = get_or c.args.edges.now i record { low = 0; high = 0; weight = 0 } in
     let there = loop_between e c.if-edge.true in
-    let fits = within _ c.loop-edge.loops.items c.args.edges.now i e.low e.low record { low = 0; high = 0; weight = 0 } c.requires.edges c.loop-edge-test.true there in
+    let fits = within _ c.loop-edge.loops.items c.args.edges.now i e.low e.low record { low = 0; high = 0; weight = 0 }
+    c.requires.edges c.loop-edge-test.true there in
     let below : e.low < length c.loop-edge.loops.items = omega (arith, joins, c.loop-edge.invariant.0) in
     let so = c.loop-edge.invariant.1 e.low below in
-    let read = c.index_mut.ensures.value ∙ get_or_default c.loop-edge.loops.items e.low c.index_mut.result.now 0 below in
+    let read = c.index_mut.ensures.value ∙ get_or_default c.loop-edge.loops.items e.low c.index_mut.result.now 0
+    below in
     omega (arith, fits, so, read)

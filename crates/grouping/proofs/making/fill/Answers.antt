@@ -9,7 +9,8 @@ pub returns-in_default : goal.returns-in_default
 returns-in_default g c = λ groups marks grown.
     let before = c.loop-growth.invariant.grown groups marks grown in
     let closes = choice_closes c.loop-growth.busy groups c.loop-growth.growth.members.items before.0
-    (λ cut answer. (goal.Fn-dyn g).post (c.args.policy.now.rule.vtable, c.args.policy.now.rule.value) (cut, tt) answer) c.args.tolerance
+    (λ cut answer. (goal.Fn-dyn g).post (c.args.policy.now.rule.vtable, c.args.policy.now.rule.value) (cut, tt) answer)
+    c.args.tolerance
     c.args.kept.now.edges.items c.in_default.ensures in
     ((before.1, inr (rw c.loop-growth.auto.busy at closes)), before.0)
 
@@ -18,7 +19,8 @@ loop-growth-preserved g c =
     let old = c.loop-growth.growth.members.items in
     let x = c.in-Some.next in
     let below : x < length c.loop-growth.busy = c.in-Some.ensures.2.0 in
-    let more : length c.take.new.growth.members.items ≡ length old + 1 = ap length c.in_ok-take.ensures.members ∙ length_with x old in
+    let more : length c.take.new.growth.members.items ≡ length old + 1 = ap length c.in_ok-take.ensures.members
+    ∙ length_with x old in
     record {
       counted = c.in_ok-take.ensures.counted;
       sizes = search (rules, places);
@@ -27,7 +29,8 @@ loop-growth-preserved g c =
       grown = λ groups marks grown.
           let before = c.loop-growth.invariant.grown groups marks grown in
           let joins = choice_joins c.loop-growth.busy groups old before.0
-          (λ cut answer. (goal.Fn-dyn g).post (c.args.policy.now.rule.vtable, c.args.policy.now.rule.value) (cut, tt) answer)
+          (λ cut answer. (goal.Fn-dyn g).post (c.args.policy.now.rule.vtable, c.args.policy.now.rule.value) (cut, tt)
+          answer)
           c.args.tolerance c.args.kept.now.edges.items x
           c.in-Some.ensures in
           let m = c.loop-growth.growth.members.ok.0 in

@@ -15,8 +15,11 @@ loop-init g c = record {
 pub returns-in_default : goal.returns-in_default
 returns-in_default g c =
     let are : AreEdges (length c.loop.busy) c.args.kept.now.edges.items = rw c.loop.auto.busy c.requires.kept.edges in
-    let found = rw (c.as_slice.ensures.value) at c.in_default.ensures in
-    (c.loop.invariant.begun, inr (none_starts c.loop.busy c.loop.groups c.args.kept.now.edges.items are c.loop.invariant.marks found))
+    let found = rw (c.as_slice.ensures.value) at c.in_default.ensures in (
+      c.loop.invariant.begun,
+      inr (none_starts c.loop.busy c.loop.groups c.args.kept.now.edges.items are
+          c.loop.invariant.marks found),
+    )
 
 pub loop-preserved : goal.loop-preserved
 loop-preserved g c =
@@ -30,7 +33,11 @@ loop-preserved g c =
     let formed = c.in_ok-members.ensures groups (rw members marks) (rw members (started c.in-Some.edge starts)) in
     let few : length groups < 16 = omega (arith, c.loop.invariant.count, c.loop-test.true) in
     record {
-      count = rw (c.in_ok-push.ensures.ok) (omega (arith, length-append groups (c.from.result ∷ []), c.loop.invariant.count));
+      count = rw (c.in_ok-push.ensures.ok) (omega (
+        arith,
+        length-append groups (c.from.result ∷ []),
+        c.loop.invariant.count,
+      ));
       marks = rw (c.in_ok-push.ensures.ok, c.from.ensures) formed.1;
       begun = rw (c.in_ok-push.ensures.ok, c.from.ensures)
           (more groups c.in_ok-members.members.items c.loop.invariant.begun few

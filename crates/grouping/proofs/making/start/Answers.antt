@@ -17,5 +17,6 @@ returns-clause-marks c = λ groups marks.
     let more = marks_more c.args.busy.now groups [] c.args.edge.low (omega (arith, c.requires.edge))
     (marks_begin c.args.busy.now groups marks) in
     let first : Marks c.take.new.busy (groups ++ (c.args.edge.low ∷ []) ∷ []) = rw c.in_ok-take.ensures.busy more in
-    let both = marks_more c.take.new.busy groups (c.args.edge.low ∷ []) c.args.edge.high (omega (arith, c.requires.edge, c.take.auto.busy)) first in
+    let both = marks_more c.take.new.busy groups (c.args.edge.low ∷ []) c.args.edge.high
+    (omega (arith, c.requires.edge, c.take.auto.busy)) first in
     rw (c.in_ok-take-2.ensures.busy, two_ends c.args.edge c.if-edge.false c.requires.edge.0) both

@@ -1,7 +1,8 @@
 use Rattle.std.proofs.Common.{arith, [], refl, ap, sym, ◌∙◌, ◌+◌, length}
 use Rattle.std.specs.Prelude.{Err}
 use Rattle.heap_trace.proofs.Drawing.{drawn_none, drawn_more}
-use Rattle.heap_trace.proofs.RunsTo.{ran_none, ran_next, ends_at, running_now, left_now, cut_now, keeps_file, keeps_plan, traced_next, leads_next, more_turns, started_runs, started_places}
+use Rattle.heap_trace.proofs.RunsTo.{ran_none, ran_next, ends_at, running_now, left_now, cut_now, keeps_file}
+use Rattle.heap_trace.proofs.RunsTo.{keeps_plan, traced_next, leads_next, more_turns, started_runs, started_places}
 use Rattle.heap_trace.proofs.profiles.record_run.Goals as goal
 
 pub loop-taken-init : goal.loop-taken-init

@@ -1,6 +1,7 @@
 use Rattle.std.proofs.Common.{◌≡◌, ◌++◌, [], refl, ap, sym, ◌∙◌, length, arith}
 use Rattle.sym_machine.specs.Seen.{seen_by_run}
-use Rattle.heap_trace.proofs.ReadTurns.{is_turn, now_noted, turn_led, wants, read_led, read_some, read_cut, fed_places, completed_places}
+use Rattle.heap_trace.proofs.ReadTurns.{is_turn, now_noted, turn_led, wants, read_led, read_some, read_cut, fed_places}
+use Rattle.heap_trace.proofs.ReadTurns.{completed_places}
 use Rattle.heap_trace.proofs.profiles.turn.Goals as goal
 
 pub feed_from-requires : goal.feed_from-requires

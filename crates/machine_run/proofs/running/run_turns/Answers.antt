@@ -1,6 +1,7 @@
 use Rattle.std.proofs.Common.{rules, arith, refl, sym, ◌+◌}
 use Rattle.machine_run.proofs.Drawing.{draws_none, draws_more}
-use Rattle.machine_run.proofs.TurnByTurn.{ran_none, ran_next, ran_quietly, ends_at, ran_cut, ran_stopped, ran_lacking, ran_all}
+use Rattle.machine_run.proofs.TurnByTurn.{ran_none, ran_next, ran_quietly, ends_at, ran_cut, ran_stopped, ran_lacking}
+use Rattle.machine_run.proofs.TurnByTurn.{ran_all}
 use Rattle.machine_run.proofs.running.run_turns.Goals as goal
 
 pub loop-taken-init : goal.loop-taken-init
@@ -42,7 +43,14 @@ returns-in-Exit-clause-run g c = λ left told.
     let r = ran_next _ _ left _ _ _ _ _ _ _ _ _ _ q c.run_quietly-taken.ensures.runs c.in-Ok.ensures.turn in
     let e = ends_at _ _ left _ c.args.steps _ _ _ _ _ _ r (sym c.in-Exit.ensures.is)
     (c.in-Exit.ensures.stays (λ h. (cc))) (omega arith) in
-    record { taken = c.loop-taken.taken + c.run_quietly-taken.result + 1; answer = (refl, e); runs = r.runs; leaves = r.leaves; output = r.output }
+    record {
+      taken = c.loop-taken.taken + c.run_quietly-taken.result + 1;
+      answer = (refl, e);
+      runs = r.runs;
+      leaves =
+          r.leaves;
+      output = r.output;
+    }
 
 pub returns-in-Illegal-clause-run : goal.returns-in-Illegal-clause-run
 returns-in-Illegal-clause-run g c = λ left told.
@@ -52,7 +60,14 @@ returns-in-Illegal-clause-run g c = λ left told.
     let r = ran_next _ _ left _ _ _ _ _ _ _ _ _ _ q c.run_quietly-taken.ensures.runs c.in-Ok.ensures.turn in
     let e = ends_at _ _ left _ c.args.steps _ _ _ _ _ _ r (sym c.in-Illegal.ensures.is)
     (c.in-Illegal.ensures.stays (λ h. (cc))) (omega arith) in
-    record { taken = c.loop-taken.taken + c.run_quietly-taken.result + 1; answer = (refl, e); runs = r.runs; leaves = r.leaves; output = r.output }
+    record {
+      taken = c.loop-taken.taken + c.run_quietly-taken.result + 1;
+      answer = (refl, e);
+      runs = r.runs;
+      leaves =
+          r.leaves;
+      output = r.output;
+    }
 
 pub returns-in-Fault-clause-run : goal.returns-in-Fault-clause-run
 returns-in-Fault-clause-run g c = λ left told.
@@ -62,7 +77,14 @@ returns-in-Fault-clause-run g c = λ left told.
     let r = ran_next _ _ left _ _ _ _ _ _ _ _ _ _ q c.run_quietly-taken.ensures.runs c.in-Ok.ensures.turn in
     let e = ends_at _ _ left _ c.args.steps _ _ _ _ _ _ r (sym c.in-Fault.ensures.is)
     (c.in-Fault.ensures.stays (λ h. (cc))) (omega arith) in
-    record { taken = c.loop-taken.taken + c.run_quietly-taken.result + 1; answer = (refl, e); runs = r.runs; leaves = r.leaves; output = r.output }
+    record {
+      taken = c.loop-taken.taken + c.run_quietly-taken.result + 1;
+      answer = (refl, e);
+      runs = r.runs;
+      leaves =
+          r.leaves;
+      output = r.output;
+    }
 
 pub loop-taken-preserved : goal.loop-taken-preserved
 loop-taken-preserved g c = record {

@@ -1,6 +1,7 @@
 use Rattle.std.proofs.Common.{[], refl, sym, ap, ◌∙◌}
 use Rattle.machine_run.proofs.Drawing.{draws_none}
-use Rattle.machine_run.proofs.Served.{else_quiet, quiet_served, read_served, wrote_is, wrote_served, wrote_part, wants_is}
+use Rattle.machine_run.proofs.Served.{else_quiet, quiet_served, read_served, wrote_is, wrote_served, wrote_part}
+use Rattle.machine_run.proofs.Served.{wants_is}
 use Rattle.machine_run.proofs.serving.serve.Goals as goal
 
 pub accept-requires : goal.accept-requires

@@ -11,4 +11,5 @@ move_to-requires-clause-block g c =
     let some = c.in-Some-Some in
     c.place-4.ensures.others some.second (c.place-3.ensures.others some.second
     (c.release.ensures.others some.second
-    (λ e. some.ensures'.apart (subst (λ a. LivesAt c.place.new.self a) (sym e) some.ensures.lives)) some.ensures'.lives))
+    (λ e. some.ensures'.apart (subst (λ a. LivesAt c.place.new.self a) (sym e) some.ensures.lives))
+    some.ensures'.lives))

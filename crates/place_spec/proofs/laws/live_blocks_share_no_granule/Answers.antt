@@ -7,4 +7,5 @@ pub returns-clause-sound : goal.returns-clause-sound
 returns-clause-sound c = no_shared
 
 pub returns-clause-reached : goal.returns-clause-reached
-returns-clause-reached c = λ rows area layout h r. no_shared area layout (sound area layout (reached_parts rows area layout h r))
+returns-clause-reached c = λ rows area layout h r. no_shared area layout
+    (sound area layout (reached_parts rows area layout h r))

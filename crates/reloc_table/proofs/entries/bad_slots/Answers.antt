@@ -9,7 +9,8 @@ use Rattle.reloc_table.proofs.ListTests.{any_filter}
 use Rattle.reloc_table.proofs.entries.bad_slots.Goals as goal
 
 pub find_bad-requires : goal.find_bad-requires
-find_bad-requires c = slots_inside _ c.args.tables.now c.args.slots.now c.requires.short c.requires.inside c.requires.slots
+find_bad-requires c = slots_inside _ c.args.tables.now c.args.slots.now c.requires.short c.requires.inside
+    c.requires.slots
 
 pub returns : goal.returns
 returns c =

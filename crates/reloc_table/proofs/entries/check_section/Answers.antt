@@ -9,7 +9,8 @@ returns-in-Some c =
     let start = c.slot_at-start.ensures in
     let found = c.in-Some.ensures.found in
     let hit =
-    section_hit c.args.file.now c.args.symbols c.args.section c.args.bad.now c.args.s.now c.in-Some.slot c.requires.inside c.requires.short c.requires.bad
+    section_hit c.args.file.now c.args.symbols c.args.section c.args.bad.now c.args.s.now c.in-Some.slot
+    c.requires.inside c.requires.short c.requires.bad
     (rw start at found.0) (rw start at found.1) found.2 (rw start at c.in-Some.ensures.first) in
     let e : entry_refusal c.args.symbols c.args.section (c.in-Some.slot - c.slot_at-start.result) c.entry-r.result
     ≡ section_refusal c.args.file.now c.args.symbols c.args.section c.args.s.now = rw (start, c.entry-r.ensures) hit in
@@ -17,5 +18,6 @@ returns-in-Some c =
 
 pub returns-in-None : goal.returns-in-None
 returns-in-None c =
-    section_none c.args.file.now c.args.symbols c.args.section c.args.bad.now c.args.s.now c.requires.inside c.requires.short c.requires.bad
+    section_none c.args.file.now c.args.symbols c.args.section c.args.bad.now c.args.s.now c.requires.inside
+    c.requires.short c.requires.bad
     (rw c.slot_at-start.ensures at c.in-None.ensures.none)

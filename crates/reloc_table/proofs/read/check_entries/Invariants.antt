@@ -5,4 +5,5 @@ use Rattle.reloc_table.proofs.read.check_entries.Given as goal
 
 abbrev pub invariant-loop-i : goal.invariant-loop-i
 invariant-loop-i l =
-    entries_from l.file l.symbols l.sections l.i (drop l.i l.sections) ≡ entries_from l.file l.symbols l.sections 0 l.sections
+    entries_from l.file l.symbols l.sections l.i (drop l.i l.sections)
+    ≡ entries_from l.file l.symbols l.sections 0 l.sections

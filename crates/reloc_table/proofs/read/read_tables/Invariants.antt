@@ -5,4 +5,5 @@ use Rattle.reloc_table.specs.Slots.{table_of, tables_of}
 use Rattle.reloc_table.proofs.read.read_tables.Given as goal
 
 abbrev pub invariant-loop-s : goal.invariant-loop-s
-invariant-loop-s l = l.list.items ++ map table_of (filter (is_kept_rela l.sections) (drop l.s-index l.sections)) ≡ tables_of l.sections
+invariant-loop-s l = l.list.items ++ map table_of (filter (is_kept_rela l.sections) (drop l.s-index l.sections))
+    ≡ tables_of l.sections

@@ -12,7 +12,8 @@ returns-then-k-sorted-clause-none c =
     let k : ℕ = c.partition_point-k.result in
     let parted = IsPartitionedBy-ltb (λ x. x) xs c.args.from c.requires in
     let point : IsFirst c.args.from xs k =
-    IsPartitionPoint-from_clause (λ x. ltb x c.args.from) _ _ c.partition_point-k.ensures.partitioned parted (λ a r q k. search rules) in
+    IsPartitionPoint-from_clause (λ x. ltb x c.args.from) _ _ c.partition_point-k.ensures.partitioned parted
+    (λ a r q k. search rules) in
     λ b l u. missing c.args.from b k xs point l (λ i d n m. absurd (omega arith))
 
 pub returns-then-next-to-clause-found : goal.returns-then-next-to-clause-found
@@ -21,8 +22,13 @@ returns-then-next-to-clause-found c =
     let k : ℕ = c.partition_point-k.result in
     let parted = IsPartitionedBy-ltb (λ x. x) xs c.args.from c.requires in
     let point : IsFirst c.args.from xs k =
-    IsPartitionPoint-from_clause (λ x. ltb x c.args.from) _ _ c.partition_point-k.ensures.partitioned parted (λ a r q k. search rules) in
-    (first_from c.args.from k xs point (omega arith), omega arith, list_any_at _ xs k 0 (omega arith) (itself (get_or xs k 0)))
+    IsPartitionPoint-from_clause (λ x. ltb x c.args.from) _ _ c.partition_point-k.ensures.partitioned parted
+    (λ a r q k. search rules) in (
+      first_from c.args.from k xs point (omega arith),
+      omega arith,
+      list_any_at _ xs k 0 (omega arith)
+          (itself (get_or xs k 0)),
+    )
 
 pub returns-then-next-to-clause-first : goal.returns-then-next-to-clause-first
 returns-then-next-to-clause-first c =
@@ -30,7 +36,8 @@ returns-then-next-to-clause-first c =
     let k : ℕ = c.partition_point-k.result in
     let parted = IsPartitionedBy-ltb (λ x. x) xs c.args.from c.requires in
     let point : IsFirst c.args.from xs k =
-    IsPartitionPoint-from_clause (λ x. ltb x c.args.from) _ _ c.partition_point-k.ensures.partitioned parted (λ a r q k. search rules) in
+    IsPartitionPoint-from_clause (λ x. ltb x c.args.from) _ _ c.partition_point-k.ensures.partitioned parted
+    (λ a r q k. search rules) in
     λ b l u. missing c.args.from b k xs point l (first_least xs k b c.requires (omega arith) u)
 
 pub returns-else-next-to-clause-none : goal.returns-else-next-to-clause-none
@@ -39,5 +46,6 @@ returns-else-next-to-clause-none c =
     let k : ℕ = c.partition_point-k.result in
     let parted = IsPartitionedBy-ltb (λ x. x) xs c.args.from c.requires in
     let point : IsFirst c.args.from xs k =
-    IsPartitionPoint-from_clause (λ x. ltb x c.args.from) _ _ c.partition_point-k.ensures.partitioned parted (λ a r q k. search rules) in
+    IsPartitionPoint-from_clause (λ x. ltb x c.args.from) _ _ c.partition_point-k.ensures.partitioned parted
+    (λ a r q k. search rules) in
     λ b l u. missing c.args.from b k xs point l (first_least xs k b c.requires (omega arith) (omega (arith, u)))

@@ -12,7 +12,8 @@ pub returns : goal.returns
 returns c =
     let ts : List EntryTable = c.sort_unstable_by_key.new.self.items in
     let up : IsNonDecreasingBy (λ t. slot_at t.offset) ts =
-    IsNonDecreasingBy-from_sort_by_key (λ t. slot_at t.offset) _ c.sort_unstable_by_key.ensures.sorted (λ a r q k. search rules) in
+    IsNonDecreasingBy-from_sort_by_key (λ t. slot_at t.offset) _ c.sort_unstable_by_key.ensures.sorted
+    (λ a r q k. search rules) in
     let same : c.in_ok-list.list.items ≡ covered 0 ts = search rules in
     λ a.
     ap (list_any (λ b. b == a)) same

@@ -54,7 +54,8 @@ returns-clause-keeps c =
     let bytes : All (λ b. b < 256) c.args.image.now = rw c.file.ensures at c.are_bytes.ensures in
     c.new_files_keep_behaviour.ensures.heap c.args.image.now c.args.plan.now c.in_ok-new.new.items
     c.in_ok-heap.heap.words at c.elf-elf.ensures.facts bytes c.in_ok-new.ensures.bytes c.requires.fits
-    c.in_ok-heap.ensures.few (λ name e there. reached_in (text_at c.args.image.now) c.in_ok-heap.heap.words at holds name)
+    c.in_ok-heap.ensures.few (λ name e there. reached_in (text_at c.args.image.now) c.in_ok-heap.heap.words at holds
+    name)
     (subst (λ a. ServesHeap c.args.plan.now.rows c.args.plan.now.area a (a + 20480) c.in_ok-heap.heap.words at)
     c.text_at-text_at.ensures.exact c.in_ok-heap.ensures.serves)
     (of_parts (λ p s. NewMemory c.args.image.now p s c.in_ok-new.new.items) _ _ _ _ patches segments

@@ -1,7 +1,8 @@
 use Rattle.std.proofs.Common.{◌+◌, nat_le, ap, sym, ◌∙◌, arith}
 use Rattle.sym_memory.proofs.KeptLaws.{same_length, reach_living, reach_dead, reach_past}
 use Rattle.sym_memory.proofs.reaching.can_reach.Goals as goal
-use Rattle.sym_memory.proofs.reaching.can_reach.Goals.{else-block-buffers-via-then-block-buffers+else-lives, else-block-buffers-via-else-block-buffers}
+use Rattle.sym_memory.proofs.reaching.can_reach.Goals.{else-block-buffers-via-then-block-buffers+else-lives}
+use Rattle.sym_memory.proofs.reaching.can_reach.Goals.{else-block-buffers-via-else-block-buffers}
 
 pub lives-requires : goal.lives-requires
 lives-requires c = let n = same_length _ _ c.requires.kept in omega (arith, n)

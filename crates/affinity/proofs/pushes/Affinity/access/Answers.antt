@@ -5,7 +5,8 @@ use Rattle.affinity.specs.Near.{near_count}
 use Rattle.affinity.specs.State.{Held, entered, access_counted, weight_at}
 use Rattle.affinity.specs.Views.{seen_of}
 use Rattle.affinity.proofs.Standing.{same_pushed, access_pushed}
-use Rattle.affinity.proofs.Accesses.{known, ring_known, count_small, followed, some, all_known, short, small, node_small}
+use Rattle.affinity.proofs.Accesses.{known, ring_known, count_small, followed, some, all_known, short, small}
+use Rattle.affinity.proofs.Accesses.{node_small}
 use Rattle.affinity.proofs.pushes.Affinity.access.Goals as goal
 
 pub invariant_of-self : goal.invariant_of-self

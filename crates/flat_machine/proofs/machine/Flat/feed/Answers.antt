@@ -10,7 +10,8 @@ puts-requires c =
 pub invariant_of-self : goal.invariant_of-self
 invariant_of-self c =
     let room = room_left _ _ _ _ _ _ c.self.view_is c.in-Input.is c.requires in
-    feeds_paused c.stores_change_their_bytes_alone.ensures.ranges c.ranges_say_what_may_be_accessed.ensures.pieces _ _ _ _ _ _ c.in-Input.is c.self.invariant room c.puts.ensures
+    feeds_paused c.stores_change_their_bytes_alone.ensures.ranges c.ranges_say_what_may_be_accessed.ensures.pieces _ _ _
+    _ _ _ c.in-Input.is c.self.invariant room c.puts.ensures
 
 pub returns-in-Input-clause-adds_up : goal.returns-in-Input-clause-adds_up
 returns-in-Input-clause-adds_up c = λ m bytes seen.

@@ -9,7 +9,8 @@ use Rattle.place_model.proofs.places.Places.new.Goals as goal
 
 pub invariant_of-result : goal.invariant_of-result
 invariant_of-result c = record {
-  groups = subst (λ (rs : List Row). All (λ row. row.group < 16) rs) (sym (c.from.ensures ∙ (c.in_ok-rows.ensures.items ∙ c.as_slice.ensures))) c.requires.groups;
+  groups = subst (λ (rs : List Row). All (λ row. row.group < 16) rs)
+      (sym (c.from.ensures ∙ (c.in_ok-rows.ensures.items ∙ c.as_slice.ensures))) c.requires.groups;
   log_chunk = c.requires.log_chunk;
   area = c.requires.area;
   ends = c.requires.ends;
@@ -20,4 +21,5 @@ invariant_of-result c = record {
 }
 
 pub returns-clause-sound : goal.returns-clause-sound
-returns-clause-sound c = subst (Sound c.args.plan.now.area) (sym c.in_ok-tables.ensures.layout) (first_sound c.args.plan.now.area)
+returns-clause-sound c = subst (Sound c.args.plan.now.area) (sym c.in_ok-tables.ensures.layout)
+    (first_sound c.args.plan.now.area)

@@ -10,7 +10,8 @@ pub index-chunk-requires : goal.index-chunk-requires
 index-chunk-requires c =
     let s = c.requires.sound in let g = c.requires.group in
     let e : current_of (layout_of c.args.self.now) c.args.group ≡ Some c.in-Some.number =
-    sym (get_or_read c.args.self.now.currents.items c.args.group c.index.result.now (let l = s.groups in omega (arith, l, g)) c.index.ensures None) ∙ c.in-Some.is in
+    sym (get_or_read c.args.self.now.currents.items c.args.group c.index.result.now
+    (let l = s.groups in omega (arith, l, g)) c.index.ensures None) ∙ c.in-Some.is in
     let w = (s.currents c.args.group c.in-Some.number e).0 in let n = s.chunks in let o = c.args.self.now.chunks.ok.0 in
     omega (arith, w, n, o)
 
@@ -18,8 +19,11 @@ pub overflow_add-chunk : goal.overflow_add-chunk
 overflow_add-chunk c =
     let s = c.requires.sound in let g = c.requires.group in
     let e : current_of (layout_of c.args.self.now) c.args.group ≡ Some c.in-Some.number =
-    sym (get_or_read c.args.self.now.currents.items c.args.group c.index.result.now (let l = s.groups in omega (arith, l, g)) c.index.ensures None) ∙ c.in-Some.is in
+    sym (get_or_read c.args.self.now.currents.items c.args.group c.index.result.now
+    (let l = s.groups in omega (arith, l, g)) c.index.ensures None) ∙ c.in-Some.is in
     let w = (s.currents c.args.group c.in-Some.number e).0 in let n = s.chunks in
-    let r = ap (λ x. x.bump) (get_or_read c.args.self.now.chunks.items c.in-Some.number c.index-chunk.result.now (omega (arith, w, n)) c.index-chunk.ensures idle_chunk) in
-    let b = s.bumps c.in-Some.number w in let d = c.requires.need in let z = size_small c.args.area c.requires.log_chunk in
+    let r = ap (λ x. x.bump) (get_or_read c.args.self.now.chunks.items c.in-Some.number c.index-chunk.result.now
+    (omega (arith, w, n)) c.index-chunk.ensures idle_chunk) in
+    let b = s.bumps c.in-Some.number w in let d = c.requires.need in let z =
+    size_small c.args.area c.requires.log_chunk in
     omega (arith, r, b, d, z)

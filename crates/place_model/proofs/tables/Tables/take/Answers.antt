@@ -20,4 +20,5 @@ returns-in-Front-clause-layout c =
       holes = holes;
       blocks = (layout_of c.args.self.now).blocks;
     } in
-    ap after c.cut_front.ensures.holes ∙ ap (λ (s : Spot). taken c.args.need s (layout_of c.args.self.now)) (sym c.in-Front.is)
+    ap after c.cut_front.ensures.holes ∙ ap (λ (s : Spot). taken c.args.need s (layout_of c.args.self.now))
+    (sym c.in-Front.is)
