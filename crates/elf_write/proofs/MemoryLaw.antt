@@ -267,6 +267,7 @@ pub new_memory : (old : List ℕ) (ps : List Patch) (ss : List NewSegment) → I
     → All (IsLoadedInside (length old)) (segments_of old) → e_phnum old + length ss < 65536
     → NewMemory old ps ss (new_file old ps ss)
 new_memory old ps ss r apart w few = record {
+  front_length = length-front old ps (length ss);
   ranges = new_ranges old ps ss r w;
   shapes = ap (map shape_of) (new_ranges old ps ss r w)
       ∙ (map-append shape_of (map (range_of (front old ps (length ss))) (filter is_loaded (segments_of old)))

@@ -30,6 +30,8 @@ abbrev pub ranges_behind : List NewSegment → List Range
 ranges_behind segments = map range_added (filter has_memory segments) ++ stack ∷ []
 
 pub record NewMemory (file : List ℕ) (patches : List Patch) (segments : List NewSegment) (new : List ℕ) : Type 0 where
+  -- the old bytes with the patches and the new fields are as many as before
+  pub front_length : length (front file patches (length segments)) ≡ length file
   -- the ranges
   pub ranges : memory_of new ≡ map (range_of (front file patches (length segments)))
       (filter is_loaded (segments_of file)) ++ ranges_behind segments

@@ -11,12 +11,14 @@ mod bytes;
 mod contents;
 mod from_elf;
 mod front;
+mod laws;
 mod table;
 
 use contents::{contents_end, push_contents};
 use elf_spec::{NewSegment, Patch};
 pub use from_elf::with_segments;
 use front::front_copy;
+pub use laws::new_files_are_read_again;
 use std::alloc::{AllocError, Global};
 use table::{push_headers, push_old_headers, table_end, table_place};
 

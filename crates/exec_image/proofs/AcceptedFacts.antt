@@ -33,6 +33,7 @@ use Rattle.exec_image.proofs.CodePlaces.{IsPlaced, all_placed, all_words}
 use Rattle.exec_image.proofs.Finding.{NoneBelow, found_in, found_passes, found_some}
 use Rattle.exec_image.proofs.HeapApart.{heap_apart}
 use Rattle.exec_image.proofs.ImageEnd.{ends_below, use_some}
+use Rattle.exec_image.proofs.SiteShape.{site_of_code}
 use Rattle.exec_image.proofs.Passed.{Passed, accepted_end, both_false, no_inner, none_both, not_when, passed}
 use Rattle.exec_image.proofs.PlanFits.{none_of_any}
 
@@ -152,7 +153,7 @@ heap_words file h name = by_name name
 
 -- a code word is below the image's end
 code_below : (file : List ℕ) (a place : ℕ) → ReadableFacts file → IsCodeAt file a place
-    → a < image_end (segments_of file)
+    → a + 4 ≤ image_end (segments_of file)
 code_below file a place r c =
     let (j, g, n, e, (l, x, v, u, o)) = c.loaded in
     let end : g.vaddr + g.mem_size ≤ image_end (segments_of file) =
@@ -174,8 +175,9 @@ no_use none_below file r h n a = by_use (uses_tp_at file a) refl
     by_use true e = by_place (code_place file a) refl
       where
         by_place : (o : Option ℕ) → code_place file a ≡ o → uses_tp_at file a ≡ false
-        by_place (Some place) q = (none_below (uses_tp_at file) (image_end (segments_of file))).0 none a
-            (code_below file a place r (code_at file a place r h q))
+        by_place (Some place) q =
+            let below : a + 4 ≤ image_end (segments_of file) = code_below file a place r (code_at file a place r h q) in
+            (none_below (uses_tp_at file) (image_end (segments_of file))).0 none a (omega (arith, below))
         by_place None q = absurd (let t : is_some (code_place file a) ≡ true = use_some file a e in
             let f : false ≡ true = rw q at t in cc)
 
@@ -225,5 +227,8 @@ accepted_facts readable none_below file h =
       few = q.few;
       memory = q.memory;
       end = accepted_end file h;
+      segments_end = ends_below (segments_of file);
+      code_end = λ a place e. code_below file a place r (code_at file a place r p.inside e);
+      sites = site_of_code file;
       no_tp = no_use none_below file r p.inside p.no_tp;
     }

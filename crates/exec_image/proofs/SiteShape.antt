@@ -1,14 +1,18 @@
 -- What a site is.
 use Rattle.std.proofs.Common.{◌≡◌, ℕ, ◌+◌, ◌*◌, ◌/◌, ◌==◌, ◌⊎◌, ◌&&◌, ◌||◌, Bool, true, false, List, refl, sym, ap, ◌∙◌}
-use Rattle.std.proofs.Common.{inl, inr, arith, Option, Some, None}
+use Rattle.std.proofs.Common.{inl, inr, arith, Option, Some, None, is_some, subst, if◌then◌else◌}
+use Rattle.std.specs.Prelude.{option_and_then}
 use Rattle.std.proofs.lemmas.Bool.Decides.{nat_tests}
 use Rattle.rv_isa.specs.declared.Instr.{Instr}
 use Rattle.rv_isa.specs.declared.Instr.TheVariants.{Lui, Auipc, Jal, Jalr, Branch, Load, Store, OpImm, Reg, Fence}
 use Rattle.rv_isa.specs.declared.Instr.TheVariants.{Ecall, Ebreak}
+use Rattle.rv_isa.specs.Table.{decoded}
+use Rattle.elf_spec.specs.Code.{code_word}
 use Rattle.elf_spec.specs.Relocations.{has_reloc, relocs_of}
 use Rattle.site_spec.specs.declared.Site.{Site}
 use Rattle.rv_isa.specs.Addresses.{plus}
 use Rattle.site_spec.specs.Sites.{call_at, code_at, is_call_of_code, kept_site, reaches_all_stubs, site_at}
+use Rattle.exec_image.specs.Accepted.{IsSiteOfCode}
 
 abbrev pub IsJal : List ℕ → ℕ → Site → Type 0
 IsJal file a s = (imm : ℕ) × (code_at file a ≡ Some (Jal 1 imm)) × (s.back ≡ a + 4) × (s.pair ≡ false)
@@ -149,3 +153,53 @@ one_back file a b s t h k e = same (place (shape file a s h).kind (shape file b 
     place (inr (low, c, x, u)) (inr (low', d, y, v)) = let q : a + 8 ≡ b + 8 = sym x ∙ e ∙ y in omega arith
     place (inl i) (inr j) = absurd (same_place file a b s t i j e)
     place (inr i) (inl j) = absurd (same_place file b a t s j i (sym e))
+
+-- a site that is kept calls a code word
+calls_code : (file : List ℕ) (o : Option Site) (s : Site) → kept_site file o ≡ Some s
+    → is_call_of_code file s ≡ true
+calls_code file None s h = absurd (cc)
+calls_code file (Some t) s h = decide (is_call_of_code file t) refl h
+  where
+    decide : (b : Bool) → is_call_of_code file t ≡ b → (if b then Some t else None) ≡ Some s
+        → is_call_of_code file s ≡ true
+    decide true e q = let same : t ≡ s = cc in subst (λ x. is_call_of_code file x ≡ true) same e
+    decide false e q = absurd (cc)
+
+first_true : (b c : Bool) → (b && c) ≡ true → b ≡ true
+first_true true c h = refl
+first_true false c h = h
+
+target_code : (file : List ℕ) (a : ℕ) (s : Site) → site_at file a ≡ Some s → is_some (code_word file s.target) ≡ true
+unfolding site_at
+target_code file a s h =
+    first_true (is_some (code_word file s.target)) _
+    (calls_code file (call_at file a (code_at file a) (code_at file (a + 4))) s h)
+
+-- where an instruction is read there is a word
+word_there : (o : Option ℕ) → is_some (option_and_then decoded o) ≡ true → is_some o ≡ true
+word_there (Some w) h = refl
+word_there None h = h
+
+instr_there : (file : List ℕ) (a : ℕ) (o n : Option Instr) (s : Site) → call_at file a o n ≡ Some s
+    → is_some o ≡ true
+unfolding call_at
+instr_there file a (Some i) n s h = refl
+instr_there file a None n s h = absurd (cc)
+
+own_code : (file : List ℕ) (a : ℕ) (s : Site) → site_at file a ≡ Some s → is_some (code_word file a) ≡ true
+unfolding site_at
+own_code file a s h =
+    word_there (code_word file a) (instr_there file a (code_at file a) (code_at file (a + 4)) s
+    (kept file (call_at file a (code_at file a) (code_at file (a + 4))) s h))
+
+pub site_of_code : (file : List ℕ) (a : ℕ) (s : Site) → site_at file a ≡ Some s → IsSiteOfCode file a s
+site_of_code file a s h = record {
+  addr = (shape file a s h).addr;
+  code = own_code file a s h;
+  target = target_code file a s h;
+  back = behind (shape file a s h).kind;
+}
+  where
+    behind : IsJal file a s ⊎ IsPair file a s → (s.back ≡ a + 4) ⊎ (s.back ≡ a + 8)
+    behind (inl (imm, c, e, single)) = inl e
+    behind (inr (low, c, e, double)) = inr e

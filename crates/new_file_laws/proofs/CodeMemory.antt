@@ -19,7 +19,7 @@ use Rattle.sym_spec.specs.Plain.{is_code_byte}
 use Rattle.elf_write.specs.Places.{InFile, place_at}
 use Rattle.exec_image.specs.Accepted.{AcceptedFacts, IsCodeAt, IsWords}
 use Rattle.exec_image.specs.Checks.{uses_tp_at}
-use Rattle.exec_image.proofs.Finding.{found_passes, found_some}
+use Rattle.new_file_laws.proofs.Finding.{found_passes, found_some}
 use Rattle.new_file_laws.proofs.Segments.{IsLoadedAt, IsLoadedBy, IsOneOf, all_of, any_of, below_image_end, found_one}
 use Rattle.new_file_laws.proofs.Segments.{in_segment, loaded_place, some_one}
 
@@ -91,15 +91,6 @@ code_small file a w bytes e =
 
 pub code_aligned : (file : List ℕ) (a w : ℕ) → AcceptedFacts file → code_word file a ≡ Some w → a % 4 ≡ 0
 code_aligned file a w facts e = let (place, there, value) = code_there file a w e in (facts.code a place there).aligned
-
-pub code_below : (file : List ℕ) (a place : ℕ) → AcceptedFacts file → code_place file a ≡ Some place
-    → a + 4 ≤ image_end (segments_of file)
-code_below file a place facts e =
-    let (g, s) = code_segment file a place (facts.code a place e) in
-    let last : a + 3 < image_end (segments_of file) =
-    below_image_end file (a + 3) g s.among (in_segment file (a + 3) (place + 3) g facts.facts s.among
-    (s.loads 3 (omega arith))) in
-    omega (arith, last)
 
 pub code_names : (file : List ℕ) (a w : ℕ) (i : Instr) → AcceptedFacts file → code_word file a ≡ Some w
     → decoded w ≡ Some i → names_register i 4 ≡ false

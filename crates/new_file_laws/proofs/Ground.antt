@@ -1,7 +1,10 @@
 -- The new file of an accepted file and a fitting plan is laid out as the simulation asks.
 use Rattle.std.proofs.Common.{◌≡◌, ◌≢◌, ◌⊎◌, ℕ, ◌+◌, ◌-◌, ◌*◌, ◌/◌, ◌<◌, ◌≤◌, List, [], ◌++◌, true, false, length, refl}
-use Rattle.std.proofs.Common.{ap, sym, ◌∙◌, subst, inl, inr, arith}
+use Rattle.std.proofs.Common.{ap, sym, ◌∙◌, subst, inl, inr, arith, ◌==◌, nat_le}
 use Rattle.std.specs.Prelude.{Some, None, slice_get, slice_index, All}
+use Rattle.std.specs.List.{list_any}
+use Rattle.std.proofs.lemmas.Bool.Decides.{nat_tests}
+use Rattle.std.proofs.lemmas.Map.Keys.{any_passes_from_place}
 use Rattle.std.proofs.lemmas.List.Elements.{All-append, All-weaker}
 use Rattle.std.proofs.lemmas.Option.{slice_get_within}
 use Rattle.elf_spec.specs.declared.HeapName.{HeapName}
@@ -27,13 +30,13 @@ use Rattle.sym_spec.specs.SymTurns.{is_second}
 use Rattle.simulation.specs.Laws.{Laws}
 use Rattle.simulation.specs.HeapGround.{HeapGround}
 use Rattle.simulation.specs.Ground.{Ground, IsPairSite, IsUnchosen, MemoryGround}
-use Rattle.simulation.proofs.Backs.{line_none, second_of}
 use Rattle.elf_write.specs.NewMemory.{NewMemory}
 use Rattle.exec_image.specs.Accepted.{AcceptedFacts}
 use Rattle.new_file_spec.specs.Rewritten.{heap_patches, heap_segments, heap_text, jump_words, patches_for, segments_for}
 use Rattle.new_file_spec.specs.Rewritten.{text_for}
+use Rattle.new_file_laws.proofs.Finding.{found_some}
 use Rattle.new_file_laws.proofs.CodeWords.{IsOfCode, words_apart}
-use Rattle.new_file_laws.proofs.CodeMemory.{byte_word, code_aligned, code_below, code_bytes, code_names, code_small}
+use Rattle.new_file_laws.proofs.CodeMemory.{byte_word, code_aligned, code_bytes, code_names, code_small}
 use Rattle.new_file_laws.proofs.CodeMemory.{code_there}
 use Rattle.new_file_laws.proofs.Behind.{HasText}
 use Rattle.new_file_laws.proofs.NewCode.{patched_fetched, text_fetched, unpatched_fetched}
@@ -100,6 +103,24 @@ word_kept file plan new a w h e other no_heap =
         words_apart file a b place p.offset h.accepted there here
         (λ same. let clash : true ≡ false = sym heap ∙ (sym (ap (is_heap_word file) same) ∙ no_heap) in absurd (cc))
 
+-- no line is at an address
+line_none : (lines : List PlanLine) (a k : ℕ) (line : PlanLine) → line_at lines a ≡ None
+    → slice_get lines k ≡ Some line → line.addr ≢ a
+line_none lines a k line none there same =
+    let here : (line.addr == a) ≡ true = grind (arith, nat_tests) in
+    let some : list_any (λ l. l.addr == a) lines ≡ true =
+    any_passes_from_place (λ l. l.addr == a) lines k line there here in
+    let (other, found) = found_some (λ l. l.addr == a) lines some in
+    let clash : None ≡ Some other = sym none ∙ found in cc
+
+-- a pair's second word stands behind its address
+second_of : (file : List ℕ) (a : ℕ) (s : Site) → site_at file a ≡ Some s → s.pair ≡ true
+    → is_second file (a + 4) ≡ true
+second_of file a s e pair =
+    let low : nat_le 4 (a + 4) ≡ true = grind (arith, nat_tests) in
+    let before : a + 4 - 4 ≡ a = omega arith in
+    rw (low, before, e, pair) refl
+
 -- a code word that no line names, that is no second word and at which no heap function begins is as in the source
 code_kept : (file : List ℕ) (plan : Plan) (new : List ℕ) (a w : ℕ) → IsMade file plan new → code_word file a ≡ Some w
     → IsUnchosen file plan a
@@ -161,7 +182,7 @@ stub_there file plan new k i w line s h e site f =
     let inside : i < 11 = slice_get_within (stub_words (stub_at (text_at file) k) line.bit s.target s.back) i w f in
     let long : length (text_for file plan) ≡ 16 + 44 * length plan.sites = length_text file plan h.fits in
     let at : ℕ = stub_at (text_at file) k + 4 * i in
-    text_fetched file h.patches h.segments h.text new at w h.accepted.facts h.memory h.has h.place.above
+    text_fetched file h.patches h.segments h.text new at w h.accepted h.memory h.has h.place.above
     (omega (arith, h.place.aligned)) (omega arith) (omega (arith, long, below, inside, h.long))
     (λ j small. let place : at - text_at file + j ≡ 16 + 44 * k + 4 * i + j = omega arith in
     ap (slice_index h.text) place ∙ (h.stubs (16 + 44 * k + 4 * i + j) (omega (arith, long, below, inside, small))
@@ -171,11 +192,11 @@ memory_ground : (file : List ℕ) (plan : Plan) (new : List ℕ) → IsMade file
     → MemoryGround file new
 memory_ground file plan new h bytes = record {
   plain_data = λ a plain. plain_data file a h.accepted plain;
-  plain_apart = λ a plain. plain_apart file a h.place plain;
+  plain_apart = λ a plain. plain_apart file a h.accepted h.place plain;
   code_below = λ a code.
       let (place, there) = byte_word file a h.accepted code in
       let below : a / 4 * 4 + 4 ≤ image_end (segments_of file) =
-      code_below file (a / 4 * 4) place h.accepted there in omega (arith, below, h.place.above);
+      h.accepted.code_end (a / 4 * 4) place there in omega (arith, below, h.place.above);
   low_text = omega (arith, h.place.low);
   bytes = λ a b e. memory_bytes new a b bytes e;
   plain = λ a plain. plain_same file h.patches h.segments h.text new a h.accepted h.place h.has h.memory
@@ -201,7 +222,7 @@ made file plan new laws h bytes new_bytes heap entry = record {
   aligned = λ a w e. code_aligned file a w h.accepted e;
   low_code = λ a w e. let (place, there, value) = code_there file a w e in
       let below : a + 4 ≤ image_end (segments_of file) =
-      code_below file a place h.accepted there in omega (arith, below, h.place.above);
+      h.accepted.code_end a place there in omega (arith, below, h.place.above);
   code_bytes = λ a w k e low high. let (place, there, value) =
       code_there file a w e in code_bytes file a place k there low high;
   names = λ a w i e d. code_names file a w i h.accepted e d;

@@ -19,9 +19,29 @@ use Rattle.heap_spec.specs.Service.{Entries}
 use Rattle.new_file_spec.specs.Rewritten.{heap_jump, heap_patch, heap_patches, patches_at}
 use Rattle.sym_spec.specs.HeapActions.{function_at, is_entry}
 use Rattle.sym_spec.specs.SymTurns.{is_pair, is_second}
-use Rattle.exec_image.proofs.HeapApart.{in_place, place_of}
 use Rattle.new_file_laws.proofs.Lines.{IsAmong, IsWordAt, among_at, among_behind, among_front, each_at}
 use Rattle.new_file_laws.proofs.SiteKinds.{IsWordOf, kept, site_addr}
+
+-- where a name stands among the names
+abbrev place_of : HeapName → ℕ
+place_of Malloc = 0
+place_of Calloc = 1
+place_of Realloc = 2
+place_of Free = 3
+place_of MallocR = 4
+place_of CallocR = 5
+place_of ReallocR = 6
+place_of FreeR = 7
+
+in_place : (name : HeapName) → slice_get heap_names (place_of name) ≡ Some name
+in_place Malloc = refl
+in_place Calloc = refl
+in_place Realloc = refl
+in_place Free = refl
+in_place MallocR = refl
+in_place CallocR = refl
+in_place ReallocR = refl
+in_place FreeR = refl
 
 -- an executable without heap functions has none of their entries
 lacks : (f : HeapName → Option ℕ) (names : List HeapName) (name : HeapName) (k e : ℕ) → filter_map f names ≡ []

@@ -152,7 +152,7 @@ module _ (file : List ℕ) (plan : Plan) (new words : List ℕ) (at : Entries) (
         let long : length (heap_text file plan words) ≡ 1536 + 4 * length words =
         length-heap_text file plan words h.fits in
         text_range_there file h.patches (heap_segments file plan words) (heap_text file plan words) new a
-        h.accepted.facts h.memory h.has.text h.place.above (omega (arith, low)) (omega (arith, high, long));
+        h.accepted h.memory h.has.text h.place.above (omega (arith, low)) (omega (arith, high, long));
   }
 
   word_loaded : (k : ℕ) → k < length words
@@ -165,7 +165,7 @@ module _ (file : List ℕ) (plan : Plan) (new words : List ℕ) (at : Entries) (
       (omega (arith, h.place.aligned))
       (λ j small. let place : words_at (text_at file) + 4 * k + j - text_at file ≡ 1536 + 4 * k + j = omega arith in
       text_byte_there file h.patches (heap_segments file plan words) (heap_text file plan words) new
-      (words_at (text_at file) + 4 * k + j) h.accepted.facts h.memory h.has.text h.place.above (omega arith)
+      (words_at (text_at file) + 4 * k + j) h.accepted h.memory h.has.text h.place.above (omega arith)
       (omega (arith, long, low, small))
       ∙ ap Some (ap (slice_index (heap_text file plan words)) place
       ∙ heap_byte file plan words k j w h.fits (slice_get-get_or words k 0 low) small))
@@ -174,7 +174,7 @@ module _ (file : List ℕ) (plan : Plan) (new words : List ℕ) (at : Entries) (
   data_range : (a : ℕ) → data_at file ≤ a → a < area_end plan.area (data_at file)
       → range_at (memory_of new) a ≡ Some (range_added (data_segment plan.area (data_at file)))
   data_range a low high =
-      new_range file h.patches (heap_segments file plan words) new a h.accepted.facts h.memory
+      new_range file h.patches (heap_segments file plan words) new a h.accepted h.memory
       (omega (arith, h.place.above, low)) ∙ h.has.tables a low high
 
   table_byte : (i : ℕ) → i < 4 * length (first_words plan.area)

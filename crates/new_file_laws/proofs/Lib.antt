@@ -1,3 +1,4 @@
+pub mod Finding
 pub mod MemoryBytes
 pub mod SiteKinds
 pub mod Lines

@@ -22,7 +22,6 @@ use Rattle.sym_spec.specs.Plain.{is_in}
 use Rattle.elf_write.specs.Layout.{IsBeside, IsKept}
 use Rattle.elf_write.specs.NewMemory.{NewMemory, ranges_behind}
 use Rattle.elf_write.specs.Places.{InFile, place_at}
-use Rattle.elf_write.proofs.Written.{length-front}
 use Rattle.exec_image.specs.Accepted.{AcceptedFacts}
 use Rattle.new_file_laws.proofs.Segments.{IsOneOf, all_of, in_segment, loaded_inside, none_above, range_is, range_or}
 use Rattle.new_file_laws.proofs.Segments.{range_there, some_one}
@@ -151,27 +150,27 @@ patched_fetched file patches segments new a place w facts m e some =
 
 -- behind the image there are the added ranges and the stack
 pub new_range : (file : List ℕ) (patches : List Patch) (segments : List NewSegment) (new : List ℕ) (a : ℕ)
-    → ReadableFacts file → NewMemory file patches segments new → image_end (segments_of file) ≤ a
+    → AcceptedFacts file → NewMemory file patches segments new → image_end (segments_of file) ≤ a
     → range_at (memory_of new) a ≡ range_at (ranges_behind segments) a
 new_range file patches segments new a facts m high =
     let old : List ℕ = front file patches (length segments) in
     let inside : All (IsLoadedInside (length old)) (segments_of file) =
-    subst (λ n. All (IsLoadedInside n) (segments_of file)) (sym (length-front file patches (length segments)))
-    facts.segments in
+    subst (λ n. All (IsLoadedInside n) (segments_of file)) (sym m.front_length)
+    facts.facts.segments in
     ap (λ x. range_at x a) m.ranges
     ∙ (range_is old (segments_of file) (ranges_behind segments) a inside
-    ∙ ap (λ o. range_or old o (range_at (ranges_behind segments) a)) (none_above file a high))
+    ∙ ap (λ o. range_or old o (range_at (ranges_behind segments) a)) (none_above file a facts high))
 
 -- an address of the new text has its range, and its byte
 pub text_range_there : (file : List ℕ) (patches : List Patch) (segments : List NewSegment) (text new : List ℕ) (a : ℕ)
-    → ReadableFacts file → NewMemory file patches segments new → HasText file text segments
+    → AcceptedFacts file → NewMemory file patches segments new → HasText file text segments
     → image_end (segments_of file) ≤ text_at file → text_at file ≤ a → a < text_at file + length text
     → range_at (memory_of new) a ≡ Some (text_range (text_at file) text)
 text_range_there file patches segments text new a facts m has end low high =
     new_range file patches segments new a facts m (omega (arith, end, low)) ∙ has.there a low high
 
 pub text_byte_there : (file : List ℕ) (patches : List Patch) (segments : List NewSegment) (text new : List ℕ) (a : ℕ)
-    → ReadableFacts file → NewMemory file patches segments new → HasText file text segments
+    → AcceptedFacts file → NewMemory file patches segments new → HasText file text segments
     → image_end (segments_of file) ≤ text_at file → text_at file ≤ a → a < text_at file + length text
     → byte_of (memory_of new) a ≡ Some (slice_index text (a - text_at file))
 text_byte_there file patches segments text new a facts m has end low high =
@@ -182,7 +181,7 @@ text_byte_there file patches segments text new a facts m has end low high =
 
 -- a word of the new text
 pub text_fetched : (file : List ℕ) (patches : List Patch) (segments : List NewSegment) (text new : List ℕ) (a w : ℕ)
-    → ReadableFacts file → NewMemory file patches segments new → HasText file text segments
+    → AcceptedFacts file → NewMemory file patches segments new → HasText file text segments
     → image_end (segments_of file) ≤ text_at file → a % 4 ≡ 0 → text_at file ≤ a → a + 4 ≤ text_at file + length text
     → ((k : ℕ) → k < 4 → slice_index text (a - text_at file + k) ≡ slice_index (word_bytes w) k)
     → fetched (memory_of new) a ≡ Some w

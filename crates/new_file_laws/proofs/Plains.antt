@@ -21,11 +21,11 @@ use Rattle.elf_write.specs.Layout.{IsBeside}
 use Rattle.elf_write.specs.NewMemory.{NewMemory, ranges_behind}
 use Rattle.elf_write.specs.Places.{place_at, place_in}
 use Rattle.exec_image.specs.Accepted.{AcceptedFacts}
-use Rattle.exec_image.proofs.Finding.{found_passes, found_some}
+use Rattle.new_file_laws.proofs.Finding.{found_passes, found_some}
 use Rattle.new_file_laws.proofs.CodeWords.{IsOfCode}
 use Rattle.new_file_laws.proofs.Segments.{IsLoadedAt, IsLoadedBy, IsOneOf, any_of, below_image_end, found_one}
 use Rattle.new_file_laws.proofs.Segments.{loaded_inside, one_address, place_above, place_there}
-use Rattle.new_file_laws.proofs.CodeMemory.{byte_word, code_below, code_bytes, code_loaded}
+use Rattle.new_file_laws.proofs.CodeMemory.{byte_word, code_bytes, code_loaded}
 use Rattle.new_file_laws.proofs.Behind.{HasText, OnStack, stack_there, stack_writable}
 use Rattle.new_file_laws.proofs.NewCode.{byte_in, new_range, stores_there}
 
@@ -112,21 +112,22 @@ plain_data file a facts plain = at (plain_where file a plain)
     stack_data on false e = refl
     stack_data (low, high) true e =
         let (place, there) = byte_word file a facts e in
-        let below : a / 4 * 4 + 4 ≤ image_end (segments_of file) = code_below file (a / 4 * 4) place facts there in
+        let below : a / 4 * 4 + 4 ≤ image_end (segments_of file) = facts.code_end (a / 4 * 4) place there in
         absurd (omega (arith, below, facts.end, low))
 
     at : OnStack a ⊎ InImage file a → is_code_byte file a ≡ false
     at (inl on) = stack_data on (is_code_byte file a) refl
     at (inr image) = image.no_code
 
-pub plain_apart : (file : List ℕ) (a : ℕ) → IsTextPlace file → is_plain file a ≡ true
+pub plain_apart : (file : List ℕ) (a : ℕ) → AcceptedFacts file → IsTextPlace file → is_plain file a ≡ true
     → (a < text_at file) ⊎ (0x7FF00000 ≤ a)
-plain_apart file a text plain = at (plain_where file a plain)
+plain_apart file a facts text plain = at (plain_where file a plain)
   where
     at : OnStack a ⊎ InImage file a → (a < text_at file) ⊎ (0x7FF00000 ≤ a)
     at (inl (low, high)) = inr low
     at (inr image) =
-        let below : a < image_end (segments_of file) = below_image_end file a image.segment image.among image.is in
+        let below : a < image_end (segments_of file) =
+        below_image_end file a image.segment facts image.among image.is in
         inl (omega (arith, below, text.above))
 
 -- the place of a plain byte of the image is kept in the new file
@@ -192,10 +193,11 @@ above_image file a text on = omega (arith, text.above, text.low, on.0)
 
 -- the stack is as in the source
 stack_byte : (file : List ℕ) (patches : List Patch) (segments : List NewSegment) (text new : List ℕ) (a : ℕ)
-    → IsTextPlace file → HasText file text segments → NewMemory file patches segments new → OnStack a
+    → AcceptedFacts file → IsTextPlace file → HasText file text segments
+    → NewMemory file patches segments new → OnStack a
     → (byte_of (memory_of new) a ≡ byte_of (stack ∷ []) a) × (byte_of (memory_of file) a ≡ byte_of (stack ∷ []) a)
-stack_byte file patches segments text new a place has m on =
-    let none : place_at (segments_of file) a ≡ None = place_above file a (above_image file a place on) in (
+stack_byte file patches segments text new a facts place has m on =
+    let none : place_at (segments_of file) a ≡ None = place_above file a facts (above_image file a place on) in (
       m.beside a none ∙ (byte_in (ranges_behind segments) a stack (has.stack a on)
           ∙ sym (byte_in (stack ∷ []) a stack (stack_there a on))),
       m.beside_before a none,
@@ -208,7 +210,7 @@ pub plain_same : (file : List ℕ) (patches : List Patch) (segments : List NewSe
 plain_same file patches segments text new a facts place has m code plain = at (plain_where file a plain)
   where
     at : OnStack a ⊎ InImage file a → byte_of (memory_of new) a ≡ byte_of (memory_of file) a
-    at (inl on) = let (x, y) = stack_byte file patches segments text new a place has m on in x ∙ sym y
+    at (inl on) = let (x, y) = stack_byte file patches segments text new a facts place has m on in x ∙ sym y
     at (inr image) = image_same file patches segments new a facts m code image
 
 pub plain_there : (file : List ℕ) (patches : List Patch) (segments : List NewSegment) (text new : List ℕ) (a : ℕ)
@@ -221,7 +223,7 @@ plain_there file patches segments text new a facts place has m code plain =
   where
     at : OnStack a ⊎ InImage file a → is_some (byte_of (memory_of file) a) ≡ true
     at (inl on) =
-        let (x, y) = stack_byte file patches segments text new a place has m on in
+        let (x, y) = stack_byte file patches segments text new a facts place has m on in
         ap is_some (y ∙ byte_in (stack ∷ []) a stack (stack_there a on))
     at (inr image) =
         ap is_some (m.before a (place_in image.segment a)
@@ -251,7 +253,7 @@ storable file patches segments text new a facts place has m store =
         → allows_store (range_at (memory_of new) a) ≡ true
     at (inl s) =
         let on : OnStack a = on_stack a s in
-        ap allows_store (new_range file patches segments new a facts.facts m (above_image file a place on)
+        ap allows_store (new_range file patches segments new a facts m (above_image file a place on)
         ∙ has.stack a on) ∙ stack_writable
     at (inr i) =
         let (g, found) = found_some (λ s. is_in a s && is_set 2 s.flags) (segments_of file) i in

@@ -3,9 +3,10 @@
 use Rattle.std.proofs.Common.{◌≡◌, ◌⊎◌, ℕ, ◌+◌, ◌-◌, ◌<◌, ◌≤◌, List, [], ◌∷◌, ◌++◌, Bool, true, false, ◌&&◌, ◌||◌}
 use Rattle.std.proofs.Common.{if◌then◌else◌, length, get_or, map, refl, ap, sym, ◌∙◌, subst, arith, inl, inr}
 use Rattle.std.specs.Prelude.{Option, Some, None, option_map, nat_le, nat_lt, slice_get, filter, find, All, AllPairs}
-use Rattle.std.specs.Prelude.{Any}
+use Rattle.std.specs.Prelude.{Any, drop, replicate, take}
 use Rattle.std.specs.List.{list_any, position_or_len}
 use Rattle.std.proofs.lemmas.Bool.Decides.{nat_tests}
+use Rattle.std.proofs.lemmas.List.{length-append, length-drop, length-replicate, length-take-le}
 use Rattle.std.proofs.lemmas.List.Elements.{All-head, All-tail}
 use Rattle.std.proofs.lemmas.List.Folds.{find_at}
 use Rattle.std.proofs.lemmas.Map.Keys.{any_passes_from_place}
@@ -18,9 +19,8 @@ use Rattle.elf_read.specs.Readable.{IsInside, IsLoadedInside, ReadableFacts}
 use Rattle.machine_spec.specs.Memory.{Range, covers, range_at, range_of}
 use Rattle.sym_spec.specs.Plain.{is_in}
 use Rattle.elf_write.specs.Places.{InFile, is_between, place_at, place_in}
-use Rattle.elf_write.proofs.MemoryLaw.{length-range}
-use Rattle.exec_image.proofs.Finding.{found_passes, found_some}
-use Rattle.exec_image.proofs.ImageEnd.{ends_below}
+use Rattle.new_file_laws.proofs.Finding.{found_passes, found_some}
+use Rattle.exec_image.specs.Accepted.{AcceptedFacts, EndsBelow}
 
 -- an element of a list
 abbrev pub IsOneOf : {X : Type 0} → X → List X → Type 0
@@ -70,6 +70,18 @@ find_one {X = X} p R xs x pairs apart one passes = is (found_some p xs (any_of p
         at (inl same) = found ∙ ap Some same
         at (inr (inl r)) = absurd (apart y x r (found_passes p xs y found) passes)
         at (inr (inr r)) = absurd (apart x y r passes (found_passes p xs y found))
+
+-- the range of a segment has its size
+length-range : (f : List ℕ) (h : Segment) → IsInside (length f) h → length (range_of f h).bytes ≡ h.mem_size
+length-range f h inside =
+    let fits : h.file_size ≤ h.mem_size = inside.fits in
+    let file : h.offset + h.file_size ≤ length f = inside.file in
+    let cut : length (drop h.offset f) ≡ length f - h.offset = length-drop h.offset f in
+    let part : length (take h.file_size (drop h.offset f)) ≡ h.file_size =
+    length-take-le h.file_size (drop h.offset f) (omega arith) in
+    let fill : length (replicate {A = ℕ} (h.mem_size - h.file_size) 0) ≡ h.mem_size - h.file_size =
+    length-replicate {A = ℕ} (h.mem_size - h.file_size) 0 in
+    length-append (take h.file_size (drop h.offset f)) (replicate (h.mem_size - h.file_size) 0) ∙ omega arith
 
 -- two loaded segments that do not meet have no address in common, and no byte of the file
 abbrev IsApart : Segment → Segment → Type 0
@@ -172,31 +184,33 @@ low_end true v m a end e low = let l : v + m ≤ end = low refl in let h : a < v
     grind (arith, nat_tests) in omega (arith, l, h)
 low_end false v m a end e low = absurd (cc)
 
-pub below_image_end : (file : List ℕ) (a : ℕ) (g : Segment) → IsOneOf g (segments_of file) → is_in a g ≡ true
-    → a < image_end (segments_of file)
-below_image_end file a g one e =
+pub below_image_end : (file : List ℕ) (a : ℕ) (g : Segment) → AcceptedFacts file → IsOneOf g (segments_of file)
+    → is_in a g ≡ true → a < image_end (segments_of file)
+below_image_end file a g facts one e =
     low_end (is_loaded g) g.vaddr g.mem_size a (image_end (segments_of file)) e
-    (all_of (λ s. is_loaded s ≡ true → s.vaddr + s.mem_size ≤ image_end (segments_of file)) (segments_of file) g
-    (ends_below (segments_of file)) one)
+    (all_of (EndsBelow (image_end (segments_of file))) (segments_of file) g facts.segments_end one)
 
-pub none_above : (file : List ℕ) (a : ℕ) → image_end (segments_of file) ≤ a → find (is_in a) (segments_of file) ≡ None
-none_above file a high = at (find (is_in a) (segments_of file)) refl
+pub none_above : (file : List ℕ) (a : ℕ) → AcceptedFacts file → image_end (segments_of file) ≤ a
+    → find (is_in a) (segments_of file) ≡ None
+none_above file a facts high = at (find (is_in a) (segments_of file)) refl
   where
     at : (o : Option Segment) → find (is_in a) (segments_of file) ≡ o → o ≡ None
     at None e = refl
     at (Some g) e =
         absurd (let low : a < image_end (segments_of file) =
-        below_image_end file a g (found_one (is_in a) (segments_of file) g e)
+        below_image_end file a g facts (found_one (is_in a) (segments_of file) g e)
         (found_passes (is_in a) (segments_of file) g e) in omega (arith, low, high))
 
-pub place_above : (file : List ℕ) (a : ℕ) → image_end (segments_of file) ≤ a → place_at (segments_of file) a ≡ None
-place_above file a high = place_is (segments_of file) a ∙ ap (option_map (λ h. place_in h a)) (none_above file a high)
+pub place_above : (file : List ℕ) (a : ℕ) → AcceptedFacts file → image_end (segments_of file) ≤ a
+    → place_at (segments_of file) a ≡ None
+place_above file a facts high =
+    place_is (segments_of file) a ∙ ap (option_map (λ h. place_in h a)) (none_above file a facts high)
 
-pub range_above : (file : List ℕ) (rest : List Range) (a : ℕ) → ReadableFacts file → image_end (segments_of file) ≤ a
+pub range_above : (file : List ℕ) (rest : List Range) (a : ℕ) → AcceptedFacts file → image_end (segments_of file) ≤ a
     → range_at (map (range_of file) (filter is_loaded (segments_of file)) ++ rest) a ≡ range_at rest a
 range_above file rest a facts high =
-    range_is file (segments_of file) rest a facts.segments
-    ∙ ap (λ o. range_or file o (range_at rest a)) (none_above file a high)
+    range_is file (segments_of file) rest a facts.facts.segments
+    ∙ ap (λ o. range_or file o (range_at rest a)) (none_above file a facts high)
 
 -- a segment loads the byte at an offset of the file at an address
 pub record IsLoadedBy (g : Segment) (a i : ℕ) : Type 0 where

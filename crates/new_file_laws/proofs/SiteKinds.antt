@@ -170,20 +170,13 @@ site_addr file a s e = by_kind (site_is file a s e)
     by_kind (inl jal) = jal.addr
     by_kind (inr pair) = pair.addr
 
--- it begins at a code word, and its return address is the one behind its words
+-- it begins at a code word
 pub site_there : (file : List ℕ) (a : ℕ) (s : Site) → site_at file a ≡ Some s → is_some (code_word file a) ≡ true
 site_there file a s e = by_kind (site_is file a s e)
   where
     by_kind : IsJalSite file a s ⊎ IsPairSite file a s → is_some (code_word file a) ≡ true
     by_kind (inl jal) = rw jal.there refl
     by_kind (inr pair) = rw pair.there refl
-
-pub site_back : (file : List ℕ) (a : ℕ) (s : Site) → site_at file a ≡ Some s → (s.back ≡ a + 4) ⊎ (s.back ≡ a + 8)
-site_back file a s e = by_kind (site_is file a s e)
-  where
-    by_kind : IsJalSite file a s ⊎ IsPairSite file a s → (s.back ≡ a + 4) ⊎ (s.back ≡ a + 8)
-    by_kind (inl jal) = inl jal.back
-    by_kind (inr pair) = inr pair.back
 
 -- a word of a site: its first, or the second of a pair
 abbrev pub IsWordOf : List ℕ → ℕ → Site → ℕ → Type 0

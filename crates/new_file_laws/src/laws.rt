@@ -27,14 +27,22 @@ use block_laws::{
     one_more_address_keeps_what_words_and_bytes_stand_for, tables_depend_on_their_own_words_alone,
     zero_bytes_stand_for_the_cells_of_a_new_block,
 };
+use elf_write::new_files_are_read_again;
 use heap_spec::first_words_spell_the_first_layout;
 use place_spec::layouts_stay_sound;
+use simulation::a_new_file_on_its_ground_keeps_behaviour;
+use site_stubs::{parts_of_a_distance_lead_there, stubs_call_and_come_back};
 use sym_cells::{a_store_keeps_every_region, buffers_are_alike, loads_and_stores_are_alike};
 use sym_value::values_stand_for_their_words;
 
 /// A plan that fits has at most 32 sites, as each has a bit of its own.
 pub fn fitting_plans_have_few_sites()
     ensures { (file : List ℕ) (plan : Plan) → Fits file plan → length plan.sites ≤ 32 }
+{}
+
+/// A file without entries of heap functions has none of these functions.
+pub fn files_without_entries_have_no_heap_function()
+    ensures { (file : List ℕ) (name : HeapName) (e : ℕ) → heap_entries file ≡ [] → heap_entry file name ≡ Some e → ⊥ }
 {}
 
 /// The new file of an accepted file with patches in its executable sections and added segments is
@@ -45,7 +53,9 @@ pub fn new_files_of_patched_code_are_readable()
     ensures { (file : List ℕ) (patches : List Patch) (segments : List NewSegment) → AcceptedFacts file
         → All (IsInCode file) patches → AreFieldsAlone file → e_phnum file + length segments ≤ 100
         → DoHeadersPass file segments → IsReadable (new_file file patches segments) }
-{}
+{
+    new_files_are_read_again();
+}
 
 /// A plan that fits an accepted file suits its heap: the area ends below the stack.
 pub fn fitting_plans_suit_the_heap()
@@ -82,6 +92,8 @@ fn the_laws_of_the_simulation_hold()
     one_more_address_keeps_what_words_and_bytes_stand_for();
     zero_bytes_stand_for_the_cells_of_a_new_block();
     copied_bytes_stand_for_the_cells_of_a_moved_block();
+    stubs_call_and_come_back();
+    parts_of_a_distance_lead_there();
 }
 
 /// A file that starts with the memory of the new file of an accepted file and a fitting plan, at the same
@@ -101,5 +113,6 @@ pub fn new_files_keep_behaviour()
         → e_entry new ≡ e_entry file → KeepsBehaviour file plan new }
 {
     the_laws_of_the_simulation_hold();
+    a_new_file_on_its_ground_keeps_behaviour();
     first_words_spell_the_first_layout();
 }

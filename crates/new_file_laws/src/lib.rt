@@ -5,6 +5,7 @@
 mod laws;
 
 pub use laws::{
-    fitting_plans_have_few_sites, fitting_plans_suit_the_heap, new_files_keep_behaviour,
-    new_files_of_patched_code_are_readable, parts_fit_the_file,
+    files_without_entries_have_no_heap_function, fitting_plans_have_few_sites,
+    fitting_plans_suit_the_heap, new_files_keep_behaviour, new_files_of_patched_code_are_readable,
+    parts_fit_the_file,
 };

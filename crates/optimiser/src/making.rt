@@ -5,7 +5,9 @@ ghost use Rattle.profile_text.specs.Profile.{IsProfile};
 ghost use Rattle.exec_image.specs.Images.{IsAccepted};
 ghost use Rattle.rewriter.specs.Rewrites.{IsRewritten};
 ghost use Rattle.plan_making.specs.Plans.{AreNearSites, IsPlanFor};
+ghost use Rattle.tidy_runs.specs.Tidy.{AreNear};
 
+use crate::contexts::plans_of_near_sites_choose_near_sites_alone;
 use group_policy::{Cut, Policy, Rule};
 use grouping::Options;
 use plan_core::{Area, Groups, Plan, Profile};
@@ -47,9 +49,11 @@ pub fn optimise(
     ensures plan { IfOk result (λ made.
         IsPlanFor (λ cut answer. ⟦<Rule as Fn(Cut) -> i128>⟧.post policy.now.rule cut answer)
         profile.now area options.now made.groups made.plan) }
+    ensures near { IfOk result (λ made. AreNear file.now made.plan.sites) }
     ensures new { IfOk result (λ made. IsRewritten file.now made.plan made.file.items) }
 {
     plans_of_near_sites_fit();
+    plans_of_near_sites_choose_near_sites_alone();
     let Planned { groups, plan } = make_plan(alloc, profile, area, options, policy)?;
     match rewrite(alloc, file, &plan) {
         Ok(new) => Ok(Optimised {

@@ -21,27 +21,29 @@ use Rattle.new_file_spec.specs.Stubs.{stub_words}
 use Rattle.elf_spec.specs.Fields.{word_bytes}
 use Rattle.site_spec.specs.Sites.{site_at}
 use Rattle.exec_image.specs.Accepted.{AcceptedFacts}
-use Rattle.new_file_laws.proofs.CodeMemory.{code_below}
-use Rattle.new_file_laws.proofs.SiteKinds.{site_addr, site_back, site_there, target_there}
 
 word_aligned : (file : List ℕ) (a : ℕ) → AcceptedFacts file → is_some (code_word file a) ≡ true → a % 4 ≡ 0
 word_aligned file a facts h = let (place, e) = place_of file a h in (facts.code a place e).aligned
 
+pub site_addr : (file : List ℕ) (a : ℕ) (s : Site) → AcceptedFacts file → site_at file a ≡ Some s → s.addr ≡ a
+site_addr file a s facts h = (facts.sites a s h).addr
+
 pub site_aligned : (file : List ℕ) (a : ℕ) (s : Site) → AcceptedFacts file → site_at file a ≡ Some s → a % 4 ≡ 0
-site_aligned file a s facts h = word_aligned file a facts (site_there file a s h)
+site_aligned file a s facts h = word_aligned file a facts (facts.sites a s h).code
 
 pub site_low : (file : List ℕ) (a : ℕ) (s : Site) → AcceptedFacts file → site_at file a ≡ Some s → s.addr < 2 ^ 31
 site_low file a s facts h =
-    let (place, e) = place_of file a (site_there file a s h) in
-    let below : a + 4 ≤ image_end (segments_of file) = code_below file a place facts e in
-    omega (arith, below, facts.end, site_addr file a s h)
+    let (place, e) = place_of file a (facts.sites a s h).code in
+    let below : a + 4 ≤ image_end (segments_of file) = facts.code_end a place e in
+    let here : s.addr ≡ a = (facts.sites a s h).addr in
+    omega (arith, below, facts.end, here)
 
 pub target_aligned : (file : List ℕ) (a : ℕ) (s : Site) → AcceptedFacts file → site_at file a ≡ Some s
     → s.target % 4 ≡ 0
-target_aligned file a s facts h = word_aligned file s.target facts (target_there file a s h)
+target_aligned file a s facts h = word_aligned file s.target facts (facts.sites a s h).target
 
 pub back_aligned : (file : List ℕ) (a : ℕ) (s : Site) → AcceptedFacts file → site_at file a ≡ Some s → s.back % 4 ≡ 0
-back_aligned file a s facts h = behind (site_back file a s h)
+back_aligned file a s facts h = behind (facts.sites a s h).back
   where
     even : a % 4 ≡ 0
     even = site_aligned file a s facts h
@@ -57,7 +59,7 @@ pub formed_jump : (file : List ℕ) (line : PlanLine) (k to : ℕ) (s : Site) �
 formed_jump file line k to s facts reach e place even low single =
     let h : site_at file line.addr ≡ Some s = sym e in
     let near : reaches line.addr to ≡ true = subst (λ z. reaches line.addr z ≡ true) (sym place) (reach s h single) in
-    subst (λ x. IsFormed (Jal 0 (minus to x))) (sym (site_addr file line.addr s h))
+    subst (λ x. IsFormed (Jal 0 (minus to x))) (sym (facts.sites line.addr s h).addr)
     (jump_formed to line.addr low (site_aligned file line.addr s facts h) even near)
 
 -- the one patch of a site that is no pair, and the two of a pair

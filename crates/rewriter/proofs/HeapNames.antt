@@ -17,7 +17,6 @@ use Rattle.elf_spec.specs.Records.{segments_of}
 use Rattle.elf_spec.proofs.CodePlaces.{place_of}
 use Rattle.new_file_spec.specs.Rewritten.{has_heap, heap_jump, patch_to, patches_at}
 use Rattle.exec_image.specs.Accepted.{AcceptedFacts}
-use Rattle.new_file_laws.proofs.CodeMemory.{code_below}
 
 some_given : (f : HeapName → Option ℕ) (names : List HeapName)
     → list_any (λ name. is_some (f name)) names ≡ nat_lt 0 (length (filter_map f names))
@@ -53,7 +52,7 @@ pub entry_low : (file : List ℕ) (name : HeapName) (e : ℕ) → AcceptedFacts 
 entry_low file name e facts there =
     let code : is_some (code_word file e) ≡ true = (facts.heap name e (sym there)).0 in
     let (place, at) = place_of file e code in
-    let below : e + 4 ≤ image_end (segments_of file) = code_below file e place facts at in
+    let below : e + 4 ≤ image_end (segments_of file) = facts.code_end e place at in
     omega (arith, below, facts.end)
 
 pub ruleset pair = (two_patches)

@@ -1,5 +1,5 @@
 -- What a file that is made of the parts of a plan is.
-use Rattle.std.proofs.Common.{◌≡◌, ℕ, suc, ◌+◌, ◌<◌, ◌≤◌, true, false, List, [], ◌∷◌, ◌++◌, length, None, inl, arith}
+use Rattle.std.proofs.Common.{Some, ◌≡◌, ℕ, suc, ◌+◌, ◌<◌, ◌≤◌, true, false, List, [], ◌∷◌, ◌++◌, length, None, inl, arith}
 use Rattle.std.proofs.Common.{refl, ap, sym, ◌∙◌, subst}
 use Rattle.std.specs.Prelude.{nat_lt}
 use Rattle.std.specs.List.{All}
@@ -10,7 +10,7 @@ use Rattle.elf_spec.specs.declared.HeapName.TheVariants.{Malloc, Calloc, Realloc
 use Rattle.elf_spec.specs.declared.HeapName.TheVariants.{FreeR}
 use Rattle.elf_spec.specs.declared.NewSegment.{NewSegment}
 use Rattle.elf_spec.specs.declared.Patch.{Patch}
-use Rattle.elf_spec.specs.Heap.{heap_entries}
+use Rattle.elf_spec.specs.Heap.{heap_entries, heap_entry}
 use Rattle.elf_spec.specs.NewFile.{new_file}
 use Rattle.elf_spec.specs.Records.{e_entry}
 use Rattle.plan_core.specs.declared.types.Plan.{Plan}
@@ -30,7 +30,6 @@ use Rattle.match_spec.specs.Keeps.{Keeps, Reaches}
 use Rattle.match_spec.specs.Same.{DoesTheSame}
 use Rattle.new_file_laws.specs.Behaviour.{KeepsBehaviour}
 use Rattle.new_file_laws.specs.Parts.{AreParts}
-use Rattle.new_file_laws.proofs.HeapEntries.{lacks_all}
 use Rattle.rewriter.specs.Rewrites.{IsRewritten}
 
 beside_header : (i : ℕ) (ps : List Patch) → i < 52 → AreApart ps → All (λ p. IsBeside p.offset 4 i) ps
@@ -112,14 +111,15 @@ none_given file h = empty (heap_entries file) h
         let some : nat_lt 0 (suc (length xs)) ≡ true = grind (arith, nat_tests) in
         let clash : true ≡ false = sym some ∙ h in absurd (cc)
 
-pub without_heap_is : (file : List ℕ) (plan : Plan) (new : List ℕ) → has_heap file ≡ false
+pub without_heap_is : (file : List ℕ) (plan : Plan) (new : List ℕ)
+    → ((name : HeapName) (e : ℕ) → heap_entries file ≡ [] → heap_entry file name ≡ Some e → ⊥) → has_heap file ≡ false
     → new ≡ new_file file (patches_for file plan) (segments_for file plan) → NewFile file plan new
 unfolding rewritten
-without_heap_is file plan new none e = record {
+without_heap_is file plan new lacks none e = record {
   words = [];
   at = no_entries;
   few = omega arith;
-  reached = λ name a there. absurd (lacks_all file name a (none_given file none) there);
+  reached = λ name a there. absurd (lacks name a (none_given file none) there);
   without = λ heap. refl;
   bytes = rw none e;
 }

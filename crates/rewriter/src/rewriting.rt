@@ -22,7 +22,10 @@ use elf_spec::{NewSegment, Patch};
 use elf_write::with_segments;
 use exec_image::{FileRefusal, Image, accept, check_plan};
 use heap_code::build;
-use new_file_laws::{fitting_plans_suit_the_heap, new_files_keep_behaviour, parts_fit_the_file};
+use new_file_laws::{
+    files_without_entries_have_no_heap_function, fitting_plans_suit_the_heap,
+    new_files_keep_behaviour, parts_fit_the_file,
+};
 use plan_core::Plan;
 use std::alloc::{AllocError, Global};
 
@@ -70,6 +73,7 @@ fn without_heap(alloc: Global, image: &Image, plan: &Plan) -> Result<Vec<u8>, Al
     ensures readable { IfOk result (λ new. AreFieldsAlone image.now → IsReadable new.items) }
     ensures short { IfOk result (λ new. length new.items ≤ 34603008) }
 {
+    files_without_entries_have_no_heap_function();
     parts_fit_the_file();
     new_files_keep_behaviour();
     let _elf = image.elf();

@@ -1,3 +1,4 @@
+pub mod FlatTurns
 pub mod InMemory
 pub mod Starting
 pub mod Backs

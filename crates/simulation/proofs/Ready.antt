@@ -40,8 +40,7 @@ use Rattle.simulation.proofs.Jumping.{flat_jump}
 use Rattle.simulation.proofs.Following.{fetch_code}
 use Rattle.simulation.proofs.Lying.{LiesAlike, lies_alike}
 use Rattle.site_stubs.specs.StubRuns.{state_of}
-use Rattle.site_stubs.proofs.Steps.{step_quiet, turn_is}
-use Rattle.site_stubs.proofs.Way.{goes_there, split_lower, split_upper}
+use Rattle.simulation.proofs.FlatTurns.{step_quiet, turn_is}
 
 abbrev pub after_entry : (upper target : ℕ) → Machine → Machine
 after_entry upper target m = record m {
@@ -195,8 +194,8 @@ at_words file plan new g name s m input output ground h run there even =
     (subst (λ x. is_some (code_word file x) ≡ true) (sym none) (g.entry name e there).0) refl) in
     let second : fetched m.memory (e + 4) ≡ Some (encoded (Jalr 0 5 lower)) =
     entry_word file plan new s m name e 1 (encoded (Jalr 0 5 lower)) ground g h there (g.entry name e there).1 refl in
-    let formed : (upper < 2 ^ 32) × (upper % 2 ^ 12 ≡ 0) = split_upper (minus to e) far in
-    let goes : plus (plus e upper) lower ≡ to = goes_there e to (omega (arith, low, top)) (omega (arith, high)) in
+    let formed : (upper < 2 ^ 32) × (upper % 2 ^ 12 ≡ 0) = ground.laws.upper (minus to e) far in
+    let goes : plus (plus e upper) lower ≡ to = ground.laws.there e to (omega (arith, low, top)) (omega (arith, high)) in
     let half : to / 2 * 2 ≡ to = (let even_to : to % 4 ≡ 0 = is.2 in omega (arith, even_to)) in
     let machine : Machine = after_entry upper to m in
     let others : (k : ℕ) → k ≢ 5 → register machine k ≡ register m k =
@@ -207,7 +206,7 @@ at_words file plan new g name s m input output ground h run there even =
           (h.ending ∙ run) h.registers.long (ap (fetched m.memory) h.pc ∙ first)
           (decoded-encoded (Auipc 5 upper) (omega arith, formed.0, formed.1))
           (ap (fetched m.memory) (ap behind h.pc ∙ next) ∙ second)
-          (decoded-encoded (Jalr 0 5 lower) (omega arith, omega arith, split_lower (minus to e) far))
+          (decoded-encoded (Jalr 0 5 lower) (omega arith, omega arith, ground.laws.lower (minus to e) far))
           (ap (λ x. plus (plus x upper) lower / 2 * 2) h.pc ∙ (ap (λ x. x / 2 * 2) goes ∙ half)) is.2;
       ready = record {
         machine = record {

@@ -27,7 +27,6 @@ use Rattle.simulation.proofs.Backs.{BackLine, back_line}
 use Rattle.simulation.proofs.Registers.{zero_unread}
 use Rattle.simulation.proofs.Following.{fetch_text}
 use Rattle.site_stubs.specs.StubRuns.{GoesBack, Reaches, RunsAt, StandAt}
-use Rattle.site_stubs.proofs.StubLaw.{returns as stub_returns}
 
 pub stub_room : (file : List ℕ) (plan : Plan) (new : List ℕ) (k : ℕ) → Ground file plan new → k < length plan.sites
     → (text_at file ≤ stub_at (text_at file) k) × (stub_at (text_at file) k + 44 ≤ text_at file + text_room) ×
@@ -111,7 +110,7 @@ stub_back file plan new places held from bits back k input output g h run pc lon
     } in
     let to : line.site.back ≡ back = line.back in
     let goes : GoesBack line.line.bit line.site.back from input output =
-    stub_returns at line.line.bit line.site.target line.site.back (line_bit file plan new k line.line g line.there)
+    g.laws.stub_returns at line.line.bit line.site.target line.site.back (line_bit file plan new k line.line g line.there)
     (rw to is.0) (rw to is.1) from input output here in
     rw (e, line.there)
     (subst (λ b. Reaches 6 from input output b (bit_and bits (2 ^ 32 - 1 - 2 ^ line.line.bit))) to

@@ -58,10 +58,8 @@ use Rattle.simulation.proofs.Jumping.{behind_code, jumps_alike, flat_jump, flat_
 use Rattle.simulation.proofs.Calling.{TurnsAlike, quiet_alike, ends_alike, calls_alike}
 use Rattle.simulation.proofs.Acting.{IsPlainInstr, acts_alike, neither, unequal}
 use Rattle.site_stubs.specs.StubRuns.{CallsFrom, Reaches, RunsAt, StandAt, state_of}
-use Rattle.site_stubs.proofs.Turns.{bit_small}
-use Rattle.site_stubs.proofs.Steps.{step_quiet, turn_is}
-use Rattle.site_stubs.proofs.Way.{goes_there, split_lower, split_upper}
-use Rattle.site_stubs.proofs.StubLaw.{calls as stub_calls}
+use Rattle.std.proofs.Math.Pow.{pow-lt}
+use Rattle.simulation.proofs.FlatTurns.{step_quiet, turn_is}
 use Rattle.flat_spec.proofs.Runs.{more_steps, one_step}
 use Rattle.new_file_spec.proofs.Jumps.{jump_formed}
 use Rattle.simulation.proofs.StubPlaces.{stub_room, place_is, stub_stands, line_bit, chosen_stub, cleared_small}
@@ -261,7 +259,7 @@ enters file plan new s m line site input output g h run at named found low align
           here);
     } in
     let to : CallsFrom stub line.bit site.target way.first input output =
-    stub_calls stub line.bit site.target site.back (omega (arith, room.2))
+    g.laws.stub_calls stub line.bit site.target site.back (omega (arith, room.2))
     (line_bit file plan new number line g at.there) low aligned way.first input output ready in
     let before : register way.first 4 ≡ s.bits = (let apart : 4 ≢ 1 = omega arith in way.others 4 apart)
     ∙ h.registers.bits_there in
@@ -286,7 +284,7 @@ enters file plan new s m line site input output g h run at named found low align
             h.registers to.reaches.registers link bits (λ j a b. to.reaches.others j a b ∙ way.others j a)
             (holds_ret (places_of file plan s.at) site.back (stub + 20) is back (omega (arith, room.2)))
             (or_lt 32 s.bits (2 ^ line.bit) h.registers.bits_small
-            (bit_small line.bit (line_bit file plan new number line g at.there)));
+            (pow-lt (line_bit file plan new number line g at.there)));
         memory = subst (λ x. InMemory file new (places_of file plan s.at) s.memory x)
             (sym (to.reaches.memory ∙ way.memory)) h.memory;
         heap = subst (λ x. InHeap file plan s.layout s.at (map life_of s.memory.blocks) x)
@@ -509,9 +507,9 @@ pair_enters file plan new s m line site input output g h run at found pair =
     let second : fetched m.memory (s.pc + 4) ≡ Some (encoded (Jalr 0 1 lower)) =
     jump_word file plan new s m line site 1 pair.second (encoded (Jalr 0 1 lower)) g h at found pair.next
     (rw (double, addr) refl) in
-    let formed : (upper < 2 ^ 32) × (upper % 2 ^ 12 ≡ 0) = split_upper (minus stub s.pc) far in
+    let formed : (upper < 2 ^ 32) × (upper % 2 ^ 12 ≡ 0) = g.laws.upper (minus stub s.pc) far in
     let there : plus (plus s.pc upper) lower ≡ stub =
-    goes_there s.pc stub (omega (arith, low, text)) (omega (arith, room.2)) in
+    g.laws.there s.pc stub (omega (arith, low, text)) (omega (arith, room.2)) in
     let half : stub / 2 * 2 ≡ stub = omega (arith, room.3) in
     let to : Machine = after_pair 0 upper stub m in
     record {
@@ -523,7 +521,7 @@ pair_enters file plan new s m line site input output g h run at found pair =
           (h.ending ∙ run) h.registers.long
           (ap (fetched m.memory) h.pc ∙ first) (decoded-encoded (Auipc 1 upper) (omega arith, formed.0, formed.1))
           (ap (fetched m.memory) (ap behind h.pc ∙ next) ∙ second)
-          (decoded-encoded (Jalr 0 1 lower) (omega arith, omega arith, split_lower (minus stub s.pc) far))
+          (decoded-encoded (Jalr 0 1 lower) (omega arith, omega arith, g.laws.lower (minus stub s.pc) far))
           (ap (λ x. plus (plus x upper) lower / 2 * 2) h.pc ∙ (ap (λ x. x / 2 * 2) there ∙ half)) room.3;
       ending = refl;
       pc = refl;

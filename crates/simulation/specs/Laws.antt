@@ -1,7 +1,10 @@
--- What the simulation rests on of values, of the symbol machine's memory and of the heap: the laws of the
+-- What the simulation rests on of values, of the symbol machine's memory, of the heap and of stubs: the laws of the
 -- crates that define them.
 use Rattle.std.specs.Prelude.{◌≡◌, ℕ, ◌+◌, ◌*◌, ◌%◌, ◌^◌, ◌<◌, ◌≤◌, List, [], ◌∷◌, ◌++◌, All, Bool, true, Some, nat_lt}
 use Rattle.std.specs.Prelude.{length, replicate}
+use Rattle.rv_isa.specs.Addresses.{minus, plus}
+use Rattle.rv_isa.specs.Encoded.{IsExtended}
+use Rattle.rv_isa.specs.Split.{split_of}
 use Rattle.rv_isa.specs.declared.Op.{Op}
 use Rattle.rv_isa.specs.declared.Cond.{Cond}
 use Rattle.rv_isa.specs.declared.Width.{Width}
@@ -24,6 +27,8 @@ use Rattle.sym_value.specs.Standing.{Holds, Placed}
 use Rattle.sym_cells.specs.Cells.{Cell, Cells, zero_cell, cell_in}
 use Rattle.sym_cells.specs.Memory.{Memory, loaded, stored, overlaid}
 use Rattle.block_laws.specs.Blocks.{StandsBeside, StandsWithout}
+use Rattle.new_file_spec.specs.Stubs.{stub_words}
+use Rattle.site_stubs.specs.StubRuns.{Calls, Returns}
 use Rattle.sym_cells.specs.Buffers.{is_within, taken, filled}
 use Rattle.sym_cells.specs.Region.{Region, AreWords, MemoryStands, Laid, LoadsAlike, StoresAlike, FillsAlike}
 
@@ -97,3 +102,12 @@ pub record Laws : Type 0 where
       → ((o : ℕ) → 4 * length cells ≤ o → o < 16 * need → byte_of after (to + o) ≡ Some 0)
       → Region back at after to (λ o. nat_lt o (16 * need))
       (cell_in (overlaid cells (replicate (4 * need) zero_cell)))
+  -- a stub calls with its bit set and comes back with it cleared, and a jump of two words goes as far as it should
+  pub stub_calls : (at bit target back : ℕ) → at < 2 ^ 32 → bit < 32 → target < 2 ^ 32 → target % 4 ≡ 0
+      → Calls at bit target (stub_words at bit target back)
+  pub stub_returns : (at bit target back : ℕ) → bit < 32 → back < 2 ^ 32 → back % 4 ≡ 0
+      → Returns at bit back (stub_words at bit target back)
+  pub upper : (d : ℕ) → d < 2 ^ 32 → ((split_of d).0 < 2 ^ 32) × ((split_of d).0 % 2 ^ 12 ≡ 0)
+  pub lower : (d : ℕ) → d < 2 ^ 32 → IsExtended 12 (split_of d).1
+  pub there : (from target : ℕ) → from < 2 ^ 32 → target < 2 ^ 32
+      → plus (plus from (split_of (minus target from)).0) (split_of (minus target from)).1 ≡ target

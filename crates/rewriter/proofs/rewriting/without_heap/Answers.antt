@@ -16,7 +16,8 @@ written-requires-clause-parts c =
 
 pub returns-clause-is : goal.returns-clause-is
 returns-clause-is c =
-    without_heap_is c.args.image.now c.args.plan.now c.in_ok-new.new.items c.requires.none
+    without_heap_is c.args.image.now c.args.plan.now c.in_ok-new.new.items
+    (c.files_without_entries_have_no_heap_function.ensures c.args.image.now) c.requires.none
     (of_parts (λ p s. c.in_ok-new.new.items ≡ new_file c.args.image.now p s) _
     (patches_for c.args.image.now c.args.plan.now) _ (segments_for c.args.image.now c.args.plan.now)
     (c.deref.ensures.value ∙ c.in_ok-patches.ensures) (ap (λ s. s ∷ []) c.in_ok-text.ensures)
