@@ -26,3 +26,8 @@ unreachable-requires g c =
     (subst (λ (a : Area). a.chunks ≤ 256) (sym area) c.requires.chunks)
     (subst (λ (a : Area). granules a ≤ 1048576) (sym area) c.requires.area) in
     c.in_default.not-Memory (c.in-Err.ensures.sure c.requires.accepted fits)
+
+pub returns-in-Ok-clause-near : goal.returns-in-Ok-clause-near
+returns-in-Ok-clause-near g c =
+    c.plans_of_near_sites_choose_near_sites_alone.ensures c.args.file.now c.args.profile.now.contexts
+    c.in_ok-groups.field-0.plan c.in_ok-groups.ensures.made c.requires.near
