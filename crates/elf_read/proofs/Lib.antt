@@ -2,6 +2,5 @@ pub mod Entries
 pub mod EndedNames
 pub mod Finds
 pub mod Sizes
-pub mod Below
 pub mod TablesInside
 pub mod ReadableFacts

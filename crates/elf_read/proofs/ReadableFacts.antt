@@ -6,7 +6,8 @@ use Rattle.std.specs.List.{All, find, list_any, prefix_len}
 use Rattle.std.proofs.lemmas.Bool.Decides.{nat_tests}
 use Rattle.std.proofs.lemmas.List.Elements.{All-nil, All-weaker}
 use Rattle.std.proofs.lemmas.List.Sums.{prefix_len-le-length}
-use Rattle.elf_read.specs.declared.refusals.ElfRefusal.{ElfRefusal}
+use Rattle.first_check.proofs.Below.{below_none}
+use Rattle.first_check.proofs.Checks.{none_both, not_when}
 use Rattle.elf_read.specs.declared.refusals.ElfRefusal.TheVariants.{NameOut, NotElf, TableOut}
 use Rattle.elf_read.specs.declared.refusals.Table.TheVariants.{Program, Section as SectionTable}
 use Rattle.elf_spec.specs.declared.Segment.{Segment}
@@ -20,23 +21,13 @@ use Rattle.elf_read.specs.Checks.{has_header, is_ended, is_name_out, is_program_
 use Rattle.elf_read.specs.Checks.{is_segment_out}
 use Rattle.elf_read.specs.Elf.{IsReadable}
 use Rattle.elf_read.specs.Readable.{IsLoadedInside, ReadableFacts}
-use Rattle.elf_read.specs.Refusals.{◌or_else◌, header_refusal, memory_size, name_out, name_out_in, not_elf, bad_flags}
+use Rattle.elf_read.specs.Refusals.{header_refusal, memory_size, name_out, name_out_in, not_elf, bad_flags}
 use Rattle.elf_read.specs.Refusals.{not_exec, not_riscv, wrong_class, wrong_order, wrong_version, program_table_out}
 use Rattle.elf_read.specs.Refusals.{section_out, section_table_out, segment_kind, segment_out, segment_overlap}
-use Rattle.elf_read.specs.Refusals.{too_large, too_many, when}
-use Rattle.elf_read.proofs.Below.{below_none}
+use Rattle.elf_read.specs.Refusals.{too_large, too_many}
 use Rattle.elf_read.proofs.Entries.{all_entries, length-entries}
 use Rattle.elf_read.proofs.Sizes.{all_in, apart_pairs, not_some}
 use Rattle.elf_read.proofs.TablesInside.{stays, strings_inside, symbols_inside}
-
--- neither of two checks refuses
-none_both : (p q : Option ElfRefusal) → (p or_else q) ≡ None → (p ≡ None) × (q ≡ None)
-none_both None q h = (refl, h)
-none_both (Some why) q h = absurd (cc)
-
-not_when : (b : Bool) (why : ElfRefusal) → when b why ≡ None → b ≡ false
-not_when true why h = absurd (cc)
-not_when false why h = refl
 
 record Headed (file : List ℕ) : Type 0 where
   long : 52 ≤ length file

@@ -1,16 +1,20 @@
 -- Loaded segments that end below a bound and share no address take no more memory than that bound.
-use Rattle.std.proofs.Common.{◌≡◌, ℕ, zero, suc, ◌+◌, ◌-◌, ◌<◌, ◌≤◌, Bool, true, false, ◌&&◌, ◌||◌, List, [], ◌∷◌, ◌++◌}
-use Rattle.std.proofs.Common.{length, get_or, nat_eq, nat_le, nat_lt, refl, sym, ap, ◌∙◌, arith, min, if◌then◌else◌}
+use Rattle.std.proofs.Common.{◌≡◌, ℕ, zero, suc, ◌+◌, ◌-◌, ◌≤◌, Bool, true, false, ◌&&◌, ◌||◌, List, [], ◌∷◌}
+use Rattle.std.proofs.Common.{length, length-take, take, get_or, nat_eq, nat_le, nat_lt, refl, sym, subst, ap, ◌∙◌}
+use Rattle.std.proofs.Common.{arith, min, if◌then◌else◌}
 use Rattle.std.proofs.Common.{Option, Some, None, add-one, sum_by}
 use Rattle.std.specs.List.{All, AllPairs, list_any}
 use Rattle.std.specs.Option.{option_map}
 use Rattle.std.proofs.lemmas.Bool.Decides.{nat_tests}
-use Rattle.std.proofs.lemmas.List.Elements.{All-head, All-tail}
-use Rattle.std.proofs.lemmas.List.Folds.{list_any-append}
+use Rattle.std.proofs.lemmas.List.{get_or-take}
+use Rattle.std.proofs.lemmas.List.Elements.{All-cons, All-head, All-nil, All-tail}
 use Rattle.std.proofs.lemmas.List.Sums.{sum_by-append}
 use Rattle.elf_spec.specs.declared.Segment.{Segment}
+use Rattle.first_check.proofs.Checks.{not_when}
+use Rattle.first_check.proofs.Items.{item_passes}
+use Rattle.elf_read.specs.declared.refusals.ElfRefusal.TheVariants.{SegmentOverlap}
 use Rattle.elf_read.specs.Checks.{is_segment_out, load_size, meets}
-use Rattle.elf_read.specs.Refusals.{memory_size, overlap_after, segment_out, segment_overlap}
+use Rattle.elf_read.specs.Refusals.{memory_size, overlap_refusal, segment_out, segment_overlap}
 use Rattle.elf_read.proofs.Finds.{none_passes}
 
 -- a sum from the right
@@ -116,73 +120,44 @@ pub all_in : (bytes : ℕ) (ss : List Segment) → segment_out bytes ss ≡ None
 unfolding segment_out
 all_in bytes ss h = none_passes (is_segment_out bytes) ss (not_some _ _ h)
 
--- a segment is among those before
-abbrev Member : Segment → List Segment → Type 0
-Member f front = (p : Segment → Bool) → p f ≡ true → list_any p front ≡ true
-
-or_true : (a b : Bool) → a ≡ true → (a || b) ≡ true
-or_true true b e = refl
-or_true false b e = absurd (cc)
-
-true_or : (a b : Bool) → b ≡ true → (a || b) ≡ true
-true_or true b e = refl
-true_or false b e = e
-
-member_more : (f t : Segment) (front : List Segment) → Member f front → Member f (front ++ t ∷ [])
-member_more f t front m = λ p e. list_any-append p front (t ∷ [])
-    ∙ or_true (list_any p front) (list_any p (t ∷ [])) (m p e)
-
-member_last : (f : Segment) (front : List Segment) → Member f (front ++ f ∷ [])
-member_last f front = λ p e. list_any-append p front (f ∷ [])
-    ∙ true_or (list_any p front) (list_any p (f ∷ [])) (or_true (p f) false e)
-
-step : (front : List Segment) (i : ℕ) (s : Segment) (ss : List Segment) → overlap_after front i (s ∷ ss) ≡ None
-    → (list_any (λ t. meets t s) front ≡ false) × (overlap_after (front ++ s ∷ []) (i + 1) ss ≡ None)
-step front i s ss h = decide (list_any (λ t. meets t s) front) refl
+-- segments of which none meets one before it are apart
+pub apart_pairs : (ss : List Segment) → segment_overlap ss ≡ None → AllPairs (λ s t. meets s t ≡ false) ss
+unfolding segment_overlap
+apart_pairs ss over = λ i j d l m.
+    let t : Segment = get_or ss j d in
+    let none : list_any (λ s. meets s t) (take j ss) ≡ false =
+    not_when (list_any (λ s. meets s t) (take j ss)) (SegmentOverlap j) (item_passes (overlap_refusal ss) ss over j d m)
+    in
+    let n : length (take j ss) ≡ j = omega (arith, length-take j ss, m) in
+    let passes : meets (get_or (take j ss) i d) t ≡ false =
+    none_of_any (λ s. meets s t) (take j ss) none i d (omega (arith, n, l)) in
+    subst (λ s. meets s t ≡ false) (get_or-take j ss i d l) passes
   where
-    decide : (b : Bool) → list_any (λ t. meets t s) front ≡ b
-        → (list_any (λ t. meets t s) front ≡ false) × (overlap_after (front ++ s ∷ []) (i + 1) ss ≡ None)
-    decide true e = absurd (let q : Some i ≡ None = rw e at h in cc)
-    decide false e = (e, rw e at h)
+    neither : (b c : Bool) → (b || c) ≡ false → (b ≡ false) × (c ≡ false)
+    neither false false h = (refl, refl)
+    neither false true h = absurd (cc)
+    neither true c h = absurd (cc)
 
-apart_from : (f : Segment) (front : List Segment) (i : ℕ) (ss : List Segment) → Member f front
-    → overlap_after front i ss ≡ None → Apart f ss
-apart_from f front i [] m h = tt
-apart_from f front i (s ∷ ss) m h =
-    let (first, rest) = step front i s ss h in
-    (decide (meets f s) refl first, apart_from f (front ++ s ∷ []) (i + 1) ss (member_more f s front m) rest)
-  where
-    decide : (b : Bool) → meets f s ≡ b → list_any (λ t. meets t s) front ≡ false → meets f s ≡ false
-    decide true e none = absurd (let q : true ≡ false = sym (m (λ t. meets t s) e) ∙ none in cc)
-    decide false e none = e
+    none_of_any : (p : Segment → Bool) (xs : List Segment) → list_any p xs ≡ false → All (λ x. p x ≡ false) xs
+    none_of_any p [] h = All-nil (λ x. p x ≡ false)
+    none_of_any p (x ∷ xs) h =
+        let (first, rest) = neither (p x) (list_any p xs) h in
+        All-cons (λ y. p y ≡ false) x xs first (none_of_any p xs rest)
 
-disjoint : (front : List Segment) (i : ℕ) (ss : List Segment) → overlap_after front i ss ≡ None → Disjoint ss
-disjoint front i [] h = tt
-disjoint front i (s ∷ ss) h =
-    let (first, rest) = step front i s ss h in
-    (apart_from s (front ++ s ∷ []) (i + 1) ss (member_last s front) rest, disjoint (front ++ s ∷ []) (i + 1) ss rest)
+apart_from : (s : Segment) (ss : List Segment) → All (λ t. meets s t ≡ false) ss → Apart s ss
+apart_from s [] h = tt
+apart_from s (t ∷ ts) h =
+    (All-head (λ u. meets s u ≡ false) t ts h, apart_from s ts (All-tail (λ u. meets s u ≡ false) t ts h))
+
+disjoint : (ss : List Segment) → AllPairs (λ s t. meets s t ≡ false) ss → Disjoint ss
+disjoint [] h = tt
+disjoint (s ∷ ss) h = (
+  apart_from s ss (λ k d l. h 0 (suc k) d (omega arith) (omega arith)),
+  disjoint ss (λ i j d l m. h (suc i) (suc j) d (omega arith) (omega arith)),
+)
 
 pub memory_fits : (bytes : ℕ) (ss : List Segment) → segment_out bytes ss ≡ None → segment_overlap ss ≡ None
     → memory_size ss ≤ 0x7ff00000
-unfolding segment_overlap
 memory_fits bytes ss out over =
-    let d : Disjoint ss = disjoint [] 0 ss (not_some _ _ over) in
+    let d : Disjoint ss = disjoint ss (apart_pairs ss over) in
     omega (arith, total_is load_size ss, all_whole bytes ss (all_in bytes ss out), below ss d 0x7ff00000)
-
--- no two segments meet, by their places
-apart_at : (s : Segment) (ss : List Segment) → Apart s ss → (k : ℕ) (d : Segment) → k < length ss
-    → meets s (get_or ss k d) ≡ false
-apart_at s [] a k d l = absurd (omega arith)
-apart_at s (t ∷ ts) (m, a) zero d l = m
-apart_at s (t ∷ ts) (m, a) (suc k) d l = apart_at s ts a k d (omega arith)
-
-pairs : (ss : List Segment) → Disjoint ss → AllPairs (λ s t. meets s t ≡ false) ss
-pairs [] a i j d l m = absurd (omega arith)
-pairs (s ∷ ss) (a, b) zero zero d l m = absurd (omega arith)
-pairs (s ∷ ss) (a, b) zero (suc j) d l m = apart_at s ss a j d (omega arith)
-pairs (s ∷ ss) (a, b) (suc i) zero d l m = absurd (omega arith)
-pairs (s ∷ ss) (a, b) (suc i) (suc j) d l m = pairs ss b i j d (omega arith) (omega arith)
-
-pub apart_pairs : (ss : List Segment) → segment_overlap ss ≡ None → AllPairs (λ s t. meets s t ≡ false) ss
-unfolding segment_overlap
-apart_pairs ss over = pairs ss (disjoint [] 0 ss (not_some _ _ over))

@@ -1,5 +1,5 @@
 -- What passed checks of the sections say of the symbol table and its strings.
-use Rattle.std.proofs.Common.{◌≡◌, ◌≢◌, ℕ, zero, suc, ◌+◌, ◌<◌, ◌≤◌, Bool, true, false, not, ◌&&◌, ◌||◌, List, [], ◌∷◌}
+use Rattle.std.proofs.Common.{◌≡◌, ◌≢◌, ℕ, ◌+◌, ◌<◌, ◌≤◌, Bool, true, false, not, ◌&&◌, ◌||◌, List}
 use Rattle.std.proofs.Common.{length, get_or, nat_eq, nat_lt, refl, sym, ◌∙◌, subst, arith, inl, inr, Option, Some}
 use Rattle.std.proofs.Common.{None, ◌%◌}
 use Rattle.std.specs.List.{find, slice_get}
@@ -10,9 +10,11 @@ use Rattle.std.proofs.lemmas.Option.{slice_get-get_or, slice_get_past}
 use Rattle.elf_spec.specs.declared.Section.{Section}
 use Rattle.elf_spec.specs.Relocations.{is_at}
 use Rattle.elf_spec.specs.Tables.{is_symtab, strings_of, symtab_index}
+use Rattle.first_check.proofs.Checks.{not_when}
+use Rattle.first_check.proofs.Items.{item_passes}
 use Rattle.elf_read.specs.declared.refusals.ElfRefusal.TheVariants.{SectionOut}
 use Rattle.elf_read.specs.Checks.{is_bad_table, is_strtab, leaves_file}
-use Rattle.elf_read.specs.Refusals.{section_from, section_out}
+use Rattle.elf_read.specs.Refusals.{section_out, section_refusal}
 use Rattle.elf_read.specs.Symbols.{IsTables}
 use Rattle.elf_read.proofs.Finds.{find_is, find_none, none_passes}
 
@@ -20,21 +22,11 @@ abbrev is_bad : ℕ → List Section → ℕ → Section → Bool
 is_bad bytes all i s = leaves_file bytes s || (is_at (symtab_index all) i && is_bad_table all s)
 
 -- each section passes where none is refused
-good : (bytes : ℕ) (all : List Section) (i : ℕ) (ss : List Section) → section_from bytes all i ss ≡ None
-    → (k : ℕ) (d : Section) → k < length ss → is_bad bytes all (i + k) (get_or ss k d) ≡ false
-good bytes all i [] h k d l = absurd (omega arith)
-good bytes all i (s ∷ ss) h k d l = decide (is_bad bytes all i s) refl (λ e j m. good bytes all (i + 1) ss e j d m) k l
-  where
-    decide : (b : Bool) → is_bad bytes all i s ≡ b
-        → (section_from bytes all (i + 1) ss ≡ None → (j : ℕ) → j < length ss
-        → is_bad bytes all (i + 1 + j) (get_or ss j d) ≡ false)
-        → (k : ℕ) → k < length (s ∷ ss) → is_bad bytes all (i + k) (get_or (s ∷ ss) k d) ≡ false
-    decide true e ih k l = absurd (let q : Some (SectionOut i) ≡ None = rw e at h in cc)
-    decide false e ih zero l = let z : i + 0 ≡ i = omega arith in rw z e
-    decide false e ih (suc k) l =
-        let o : i + 1 + k ≡ i + suc k = omega arith in
-        let r : section_from bytes all (i + 1) ss ≡ None = rw e at h in
-        rw o at (ih r k (omega arith))
+good : (bytes : ℕ) (ss : List Section) → section_out bytes ss ≡ None → (k : ℕ) (d : Section) → k < length ss
+    → is_bad bytes ss k (get_or ss k d) ≡ false
+unfolding section_out
+good bytes ss h k d l =
+    not_when (is_bad bytes ss k (get_or ss k d)) (SectionOut k) (item_passes (section_refusal bytes ss) ss h k d l)
 
 pub none_found : (ss : List Section) → symtab_index ss ≡ None → find is_symtab ss ≡ None
 none_found ss h = find_none is_symtab ss (none_passes is_symtab ss h)
@@ -54,24 +46,18 @@ not_false false h = absurd (cc)
 -- the section at a place leaves the file not
 pub stays : (bytes : ℕ) (ss : List Section) (i : ℕ) (d : Section) → section_out bytes ss ≡ None → i < length ss
     → leaves_file bytes (get_or ss i d) ≡ false
-unfolding section_out
-stays bytes ss i d h l =
-    let g : is_bad bytes ss (0 + i) (get_or ss i d) ≡ false = good bytes ss 0 ss h i d l in
-    (or_false (leaves_file bytes (get_or ss i d)) _ g).0
+stays bytes ss i d h l = (or_false (leaves_file bytes (get_or ss i d)) _ (good bytes ss h i d l)).0
 
 -- the symbol table's link names a string table
 link_is : (bytes : ℕ) (ss : List Section) (i : ℕ) (d : Section) → section_out bytes ss ≡ None → symtab_index ss ≡ Some i
     → is_strtab (slice_get ss (get_or ss i d).link) ≡ true
-unfolding section_out
 link_is bytes ss i d h e =
     let p : (i < length ss) × (is_symtab (get_or ss i d) ≡ true)
     × ((k : ℕ) → k < i → is_symtab (get_or ss k d) ≡ false) = position-Some is_symtab ss i d e in
-    let g : is_bad bytes ss (0 + i) (get_or ss i d) ≡ false = good bytes ss 0 ss h i d p.0 in
-    let z : 0 + i ≡ i = omega arith in
     let t : nat_eq i i ≡ true = grind (arith, nat_tests) in
-    let b : (is_at (symtab_index ss) (0 + i) && is_bad_table ss (get_or ss i d)) ≡ false =
-    (or_false (leaves_file bytes (get_or ss i d)) _ g).1 in
-    let f : is_bad_table ss (get_or ss i d) ≡ false = rw (z, e, t) at b in
+    let b : (is_at (symtab_index ss) i && is_bad_table ss (get_or ss i d)) ≡ false =
+    (or_false (leaves_file bytes (get_or ss i d)) _ (good bytes ss h i d p.0)).1 in
+    let f : is_bad_table ss (get_or ss i d) ≡ false = rw (e, t) at b in
     not_false _ (or_false (not (nat_eq ((get_or ss i d).size % 16) 0)) _
     (or_false (not (nat_eq (get_or ss i d).entry_size 16)) _ f).1).1
 

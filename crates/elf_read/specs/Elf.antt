@@ -1,12 +1,13 @@
 -- What a readable file is read as.
 use Rattle.std.specs.Prelude.{◌≡◌, ℕ, ◌<◌, ◌^◌, List, None, length, Result}
+use Rattle.first_check.specs.Answers.{GivesOrRefuses}
 use Rattle.elf_read.specs.declared.elf_file.Elf.{Elf}
 use Rattle.elf_read.specs.declared.refusals.ElfRefusal.{ElfRefusal}
 use Rattle.elf_read.specs.declared.refusals.ElfRefusal.TheVariants.{Memory}
 use Rattle.elf_spec.specs.Records.{e_entry, e_flags, e_phoff, e_shoff, sections_of, segments_of}
 use Rattle.elf_spec.specs.Tables.{symbols_of}
 use Rattle.elf_read.specs.Readable.{ReadableFacts}
-use Rattle.elf_read.specs.Refusals.{GivesOrRefuses, refusal}
+use Rattle.elf_read.specs.Refusals.{refusal}
 
 -- no check refuses the file
 abbrev pub IsReadable : List ℕ → Type 0

@@ -1,9 +1,8 @@
 -- Why a file is refused: the first check that it fails, with its item, and the lowest index.
-use Rattle.std.specs.Prelude.{◌≡◌, ℕ, zero, suc, ◌+◌, ◌*◌, ◌/◌, ◌==◌, Bool, not, ◌&&◌, ◌||◌, ◌⊎◌, List, [], ◌∷◌, ◌++◌}
-use Rattle.std.specs.Prelude.{length, Option, Some, None, option_map, position, find, sum_by, nat_lt, Result, Ok, Err}
-use Rattle.std.specs.Prelude.{if◌then◌else◌}
+use Rattle.std.specs.Prelude.{ℕ, ◌+◌, ◌*◌, ◌/◌, ◌==◌, not, ◌&&◌, ◌||◌, List, length, take, Option, Some, None}
+use Rattle.std.specs.Prelude.{option_map, position, find, sum_by, nat_lt}
 use Rattle.std.specs.List.{list_any}
-use Rattle.std.specs.Option.{option_or}
+use Rattle.first_check.specs.First.{◌or_else◌, when, first_below, first_item}
 use Rattle.elf_read.specs.declared.refusals.ElfRefusal.{ElfRefusal}
 use Rattle.elf_read.specs.declared.refusals.ElfRefusal.TheVariants.{NotElf, WrongClass, WrongOrder, WrongVersion}
 use Rattle.elf_read.specs.declared.refusals.ElfRefusal.TheVariants.{NotExec, NotRiscv, Flags, TableOut, TooMany}
@@ -19,15 +18,6 @@ use Rattle.elf_spec.specs.Tables.{is_symtab, strings_of, symtab_index}
 use Rattle.elf_read.specs.Checks.{has_bad_flags, has_header, has_version, is_bad_table, is_name_out}
 use Rattle.elf_read.specs.Checks.{is_program_table_out, is_refused_kind, is_section_table_out, is_segment_out}
 use Rattle.elf_read.specs.Checks.{leaves_file, load_size, meets}
-
--- the first refusal of two
-infixr 5 ◌or_else◌
-abbrev pub ◌or_else◌ : {A : Type 0} → Option A → Option A → Option A
-None or_else q = q
-(Some why) or_else q = Some why
-
-abbrev pub when : {A : Type 0} → Bool → A → Option A
-when b why = if b then Some why else None
 
 -- the checks of the header
 abbrev pub not_elf : List ℕ → Option ElfRefusal
@@ -66,25 +56,22 @@ header_refusal file =
     or_else not_riscv file or_else bad_flags file or_else program_table_out file or_else section_table_out file
     or_else too_many file
 
--- the first segment of a kind that is not run, counted from an index on
-abbrev pub kind_from : ℕ → List Segment → Option ElfRefusal
-kind_from i [] = None
-kind_from i (s ∷ ss) = if is_refused_kind s.kind then Some (SegmentKind i s.kind) else kind_from (i + 1) ss
+-- a segment of a kind that is not run, told with its index
+abbrev pub kind_refusal : ℕ → Segment → Option ElfRefusal
+kind_refusal i s = when (is_refused_kind s.kind) (SegmentKind i s.kind)
 
 unfoldable pub segment_kind : List Segment → Option ElfRefusal
-segment_kind segments = kind_from 0 segments
+segment_kind segments = first_item kind_refusal segments
 
 unfoldable pub segment_out : ℕ → List Segment → Option ElfRefusal
 segment_out bytes segments = option_map SegmentOut (position (is_segment_out bytes) segments)
 
--- the first segment that meets one before it
-abbrev pub overlap_after : List Segment → ℕ → List Segment → Option ℕ
-overlap_after front i [] = None
-overlap_after front i (s ∷ ss) = if list_any (λ t. meets t s) front then Some i else
-    overlap_after (front ++ s ∷ []) (i + 1) ss
+-- a segment that meets one before it
+abbrev pub overlap_refusal : List Segment → ℕ → Segment → Option ElfRefusal
+overlap_refusal segments i s = when (list_any (λ t. meets t s) (take i segments)) (SegmentOverlap i)
 
 unfoldable pub segment_overlap : List Segment → Option ElfRefusal
-segment_overlap segments = option_map SegmentOverlap (overlap_after [] 0 segments)
+segment_overlap segments = first_item (overlap_refusal segments) segments
 
 abbrev pub memory_size : List Segment → ℕ
 memory_size segments = sum_by load_size segments
@@ -92,21 +79,13 @@ memory_size segments = sum_by load_size segments
 unfoldable pub too_large : List Segment → Option ElfRefusal
 too_large segments = when (nat_lt 134217728 (memory_size segments)) (TooLarge (memory_size segments))
 
--- the first section that leaves the file, or that is the symbol table and is none
-abbrev pub section_from : ℕ → List Section → ℕ → List Section → Option ElfRefusal
-section_from bytes all i [] = None
-section_from bytes all i (s ∷ ss) =
-    if leaves_file bytes s || (is_at (symtab_index all) i && is_bad_table all s)
-    then Some (SectionOut i)
-    else section_from bytes all (i + 1) ss
+-- a section that leaves the file, or that is the symbol table and is none
+abbrev pub section_refusal : ℕ → List Section → ℕ → Section → Option ElfRefusal
+section_refusal bytes sections i s =
+    when (leaves_file bytes s || (is_at (symtab_index sections) i && is_bad_table sections s)) (SectionOut i)
 
 unfoldable pub section_out : ℕ → List Section → Option ElfRefusal
-section_out bytes sections = section_from bytes sections 0 sections
-
--- the least number below n that passes
-abbrev pub first_below : (ℕ → Bool) → ℕ → Option ℕ
-first_below p zero = None
-first_below p (suc n) = option_or (first_below p n) (if p n then Some n else None)
+section_out bytes sections = first_item (section_refusal bytes sections) sections
 
 -- the first symbol whose name is not in the strings
 abbrev pub name_out_in : List ℕ → Option Section → Option Section → Option ElfRefusal
@@ -127,13 +106,3 @@ refusal file =
     or_else segment_kind (segments_of file) or_else segment_out (length file) (segments_of file)
     or_else segment_overlap (segments_of file) or_else too_large (segments_of file)
     or_else section_out (length file) (sections_of file) or_else name_out file (sections_of file)
-
--- a call gives this value where no check refuses, and else the first refusal; memory may lack
-abbrev pub GivesOrRefuses : {A E : Type 0} → (memory : E) → Result A E → Option E → A → Type 0
-GivesOrRefuses memory (Ok x) first value = (first ≡ None) × (x ≡ value)
-GivesOrRefuses memory (Err why) first value = (first ≡ Some why) ⊎ (why ≡ memory)
-
--- a check says no more than whether, and why, it refuses
-abbrev pub Says : {A : Type 0} → Result (Unit {0}) A → Option A → Type 0
-Says (Ok x) o = o ≡ None
-Says (Err why) o = o ≡ Some why

@@ -1,6 +1,8 @@
 -- The symbol table and its strings inside a file of so many bytes, and what is read of them.
-use Rattle.std.specs.Prelude.{◌≡◌, ℕ, ◌+◌, ◌*◌, ◌/◌, ◌≤◌, ◌⊎◌, Bool, List, Some, None, Result, Ok, Err, find}
+use Rattle.std.specs.Prelude.{◌≡◌, ℕ, ◌+◌, ◌*◌, ◌/◌, ◌≤◌, Bool, List, Some, Result, find}
 use Rattle.std.specs.Prelude.{option_map}
+use Rattle.first_check.specs.Answers.{GivesOrRefuses}
+use Rattle.first_check.specs.First.{first_below}
 use Rattle.elf_read.specs.declared.refusals.ElfRefusal.{ElfRefusal}
 use Rattle.elf_read.specs.declared.refusals.ElfRefusal.TheVariants.{Memory, NameOut}
 use Rattle.elf_read.specs.declared.symbols.Tables.{Tables}
@@ -10,7 +12,7 @@ use Rattle.elf_spec.specs.Fields.{word_at}
 use Rattle.elf_spec.specs.Records.{entries}
 use Rattle.elf_spec.specs.Tables.{is_symtab, strings_of, symbol_at, symbols_in}
 use Rattle.elf_read.specs.Checks.{is_name_out}
-use Rattle.elf_read.specs.Refusals.{GivesOrRefuses, first_below, name_out}
+use Rattle.elf_read.specs.Refusals.{name_out}
 
 pub record IsTables (bytes : ℕ) (sections : List Section) (tables : Tables) : Type 0 where
   pub symbols : find is_symtab sections ≡ Some tables.symbols
@@ -24,11 +26,10 @@ is_out_at file tables i = is_name_out file tables.strings (word_at file (tables.
 
 -- the symbols of these tables, or the refusal of the first whose name is out; memory may lack
 abbrev pub GivesIn : Result (List Symbol) ElfRefusal → List ℕ → Tables → Type 0
-GivesIn (Ok list) file tables =
-    (first_below (is_out_at file tables) (tables.symbols.size / 16) ≡ None)
-    × (list ≡ entries (symbol_at file tables.strings) 16 tables.symbols.offset (tables.symbols.size / 16))
-GivesIn (Err why) file tables =
-    (option_map NameOut (first_below (is_out_at file tables) (tables.symbols.size / 16)) ≡ Some why) ⊎ (why ≡ Memory)
+GivesIn result file tables =
+    GivesOrRefuses Memory result
+    (option_map NameOut (first_below (is_out_at file tables) (tables.symbols.size / 16)))
+    (entries (symbol_at file tables.strings) 16 tables.symbols.offset (tables.symbols.size / 16))
 
 -- the symbols of a file with these sections
 abbrev pub symbols_with : List ℕ → List Section → List Symbol

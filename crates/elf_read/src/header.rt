@@ -2,8 +2,9 @@
 
 ghost use Rattle.std.specs.Prelude.{◌≡◌, ◌+◌, ◌*◌, ◌<◌, ◌≤◌, ◌^◌, length, OnOk};
 ghost use Rattle.elf_spec.specs.Records.{e_phnum, e_phoff, e_shnum, e_shoff};
-ghost use Rattle.elf_read.specs.Checks.{has_bad_flags, is_table_out};
-ghost use Rattle.elf_read.specs.Refusals.{Says, header_refusal};
+ghost use Rattle.elf_read.specs.Checks.{has_bad_flags, is_program_table_out, is_section_table_out, is_table_out};
+ghost use Rattle.first_check.specs.Answers.{Says};
+ghost use Rattle.elf_read.specs.Refusals.{header_refusal};
 
 use crate::fields::{half, word};
 use crate::flag_bits::FileFlags;
@@ -63,6 +64,32 @@ fn is_table_out(bytes: usize, size: u16, offset: u32, entry_size: u16, count: u1
     count != 0 && (entry_size != size || offset as u64 + size as u64 * count as u64 > bytes as u64)
 }
 
+fn is_program_table_out(file: &[u8]) -> bool
+    requires { 52 ≤ length file.now }
+    ensures { result ≡ is_program_table_out file.now }
+{
+    is_table_out(
+        file.len(),
+        32,
+        word(file, E_PHOFF),
+        half(file, E_PHENTSIZE),
+        half(file, E_PHNUM),
+    )
+}
+
+fn is_section_table_out(file: &[u8]) -> bool
+    requires { 52 ≤ length file.now }
+    ensures { result ≡ is_section_table_out file.now }
+{
+    is_table_out(
+        file.len(),
+        40,
+        word(file, E_SHOFF),
+        half(file, E_SHENTSIZE),
+        half(file, E_SHNUM),
+    )
+}
+
 fn has_bad_flags(file: &[u8]) -> bool
     requires { 52 ≤ length file.now }
     ensures { result ≡ has_bad_flags file.now }
@@ -100,22 +127,10 @@ pub(crate) fn check_header(file: &[u8]) -> Result<(), ElfRefusal>
     if has_bad_flags(file) {
         return Err(ElfRefusal::Flags(word(file, E_FLAGS)));
     }
-    if is_table_out(
-        file.len(),
-        32,
-        word(file, E_PHOFF),
-        half(file, E_PHENTSIZE),
-        half(file, E_PHNUM),
-    ) {
+    if is_program_table_out(file) {
         return Err(ElfRefusal::TableOut(Table::Program));
     }
-    if is_table_out(
-        file.len(),
-        40,
-        word(file, E_SHOFF),
-        half(file, E_SHENTSIZE),
-        half(file, E_SHNUM),
-    ) {
+    if is_section_table_out(file) {
         return Err(ElfRefusal::TableOut(Table::Section));
     }
     if half(file, E_PHNUM) > MOST_SEGMENTS {

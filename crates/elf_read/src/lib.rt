@@ -18,7 +18,7 @@ pub use elf_file::{Elf, SectionList, SegmentList, SymbolList};
 pub use elf_spec::{ByteList, HeapName, Reloc, Section, Segment, Symbol};
 pub use fields::{half, word};
 pub use flag_bits::{FileFlags, SectionFlags, SegmentFlags};
-pub use laws::{readable_files_keep_their_facts, the_first_number_that_passes_is_found};
+pub use laws::readable_files_keep_their_facts;
 pub use read_file::read_elf;
 pub use refusals::{ElfRefusal, Table};
 pub use sections::symbol_table;

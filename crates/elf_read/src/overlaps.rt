@@ -1,9 +1,10 @@
 // Whether loaded segments have an address or a file byte in common (gABI, "Program Header").
 
-ghost use Rattle.std.specs.Prelude.{◌≡◌, ◌<◌, ◌^◌, length, IfSome, []};
+ghost use Rattle.std.specs.Prelude.{◌≡◌, ◌<◌, ◌^◌, length};
 ghost use Rattle.std.specs.List.{list_any};
+ghost use Rattle.first_check.specs.Answers.{Says};
 ghost use Rattle.elf_read.specs.Checks.{is_shared, meets};
-ghost use Rattle.elf_read.specs.Refusals.{Says, overlap_after, segment_overlap};
+ghost use Rattle.elf_read.specs.Refusals.{segment_overlap};
 
 use crate::refusals::ElfRefusal;
 use crate::segments::is_loaded;
@@ -26,23 +27,11 @@ fn meet(s: &Segment, t: &Segment) -> bool
             || is_shared(s.offset, s.file_size, t.offset, t.file_size))
 }
 
+/// Whether a segment meets one of those before it.
 fn meets_one(front: &[Segment], s: &Segment) -> bool
     ensures { result ≡ list_any (λ t. meets t s.now) front.now }
 {
     front.iter().any(|t| meet(t, s))
-}
-
-/// The first segment that meets one before it.
-fn first_overlap(segments: &[Segment]) -> Option<usize>
-    ensures first { result ≡ overlap_after [] 0 segments.now }
-    ensures inside { IfSome result (λ i. i < length segments.now) }
-{
-    for i in 0..segments.len() {
-        if meets_one(&segments[..i], &segments[i]) {
-            return Some(i);
-        }
-    }
-    None
 }
 
 /// Checks that no two loaded segments have an address or a file byte in common, by a look at all pairs.
@@ -51,8 +40,10 @@ pub(crate) fn check_overlap(segments: &[Segment]) -> Result<(), ElfRefusal>
     requires { length segments.now < 2 ^ 32 }
     ensures { Says result (segment_overlap segments.now) }
 {
-    match first_overlap(segments) {
-        Some(i) => Err(ElfRefusal::SegmentOverlap(i as u32)),
-        None => Ok(()),
+    for i in 0..segments.len() {
+        if meets_one(&segments[..i], &segments[i]) {
+            return Err(ElfRefusal::SegmentOverlap(i as u32));
+        }
     }
+    Ok(())
 }

@@ -4,8 +4,9 @@ ghost use Rattle.std.specs.Prelude.{◌≡◌, ◌+◌, ◌*◌, ◌<◌, ◌≤
 ghost use Rattle.elf_spec.specs.Records.{entries, section_at};
 ghost use Rattle.elf_spec.specs.Relocations.{is_at};
 ghost use Rattle.elf_spec.specs.Tables.{symtab_index};
+ghost use Rattle.first_check.specs.Answers.{Says};
 ghost use Rattle.elf_read.specs.Checks.{is_bad_table, is_strtab, leaves_file};
-ghost use Rattle.elf_read.specs.Refusals.{Says, section_out};
+ghost use Rattle.elf_read.specs.Refusals.{section_out};
 
 use crate::elf_file::SectionList;
 use crate::fields::word;

@@ -4,8 +4,9 @@ ghost use Rattle.std.specs.Prelude.{◌≡◌, ◌+◌, ◌*◌, ◌<◌, ◌≤
 ghost use Rattle.std.specs.List.{position};
 ghost use Rattle.elf_spec.specs.Records.{entries, segment_at};
 ghost use Rattle.elf_spec.specs.Memory.{is_loaded};
+ghost use Rattle.first_check.specs.Answers.{Says};
 ghost use Rattle.elf_read.specs.Checks.{is_refused_kind, is_segment_out};
-ghost use Rattle.elf_read.specs.Refusals.{Says, memory_size, segment_kind, segment_out, too_large};
+ghost use Rattle.elf_read.specs.Refusals.{memory_size, segment_kind, segment_out, too_large};
 
 use crate::elf_file::SegmentList;
 use crate::fields::word;

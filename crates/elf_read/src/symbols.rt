@@ -5,7 +5,8 @@ ghost use Rattle.std.specs.Prelude.{IfOk, IfNone, IfSome};
 ghost use Rattle.elf_spec.specs.Fields.{byte_at, word_at};
 ghost use Rattle.elf_spec.specs.Records.{entries};
 ghost use Rattle.elf_spec.specs.Tables.{is_symtab, name_len_at, symbol_at};
-ghost use Rattle.elf_read.specs.Refusals.{first_below, section_out};
+ghost use Rattle.first_check.specs.First.{first_below};
+ghost use Rattle.elf_read.specs.Refusals.{section_out};
 ghost use Rattle.elf_read.specs.Symbols.{GivesIn, GivesSymbols, IsTables, is_out_at};
 
 use crate::elf_file::SymbolList;
@@ -62,7 +63,7 @@ fn symbol(file: &[u8], at: usize, strings: Section, lengths: &[u32]) -> Symbol
 }
 
 /// The first symbol whose name does not end in the strings, whose last name ends at `end`.
-#[tactic(auto, using(crate::proofs::Below::below_hit, crate::proofs::Below::below_more))]
+#[tactic(auto, using(first_check::proofs::Below::below_hit, first_check::proofs::Below::below_more))]
 fn first_name_out(file: &[u8], tables: Tables, end: usize) -> Option<u32>
     requires symbols_inside { tables.symbols.offset + tables.symbols.size ≤ length file.now }
     requires strings_inside { tables.strings.offset + tables.strings.size ≤ length file.now }

@@ -1,11 +1,12 @@
 -- Segments that are added above the image pass the checks on program headers.
 use Rattle.std.proofs.Common.{◌≡◌, ℕ, ◌+◌, ◌≤◌, Bool, true, false, ◌&&◌, ◌||◌, if◌then◌else◌, List, [], ◌∷◌, ◌++◌}
-use Rattle.std.proofs.Common.{Option, Some, None, length, get_or, max, nat_eq, nat_lt, refl, sym, ap, ◌∙◌, subst}
-use Rattle.std.proofs.Common.{append_assoc, arith, sum_by}
+use Rattle.std.proofs.Common.{None, length, get_or, max, nat_eq, nat_lt, refl, sym, ap, ◌∙◌, subst}
+use Rattle.std.proofs.Common.{append_assoc, arith, sum_by, take}
 use Rattle.std.specs.Prelude.{fold, filter, option_map}
 use Rattle.std.specs.List.{All, list_any, position, position_or_len}
 use Rattle.std.proofs.lemmas.Bool.Decides.{nat_tests}
-use Rattle.std.proofs.lemmas.List.{append-nil}
+use Rattle.std.proofs.Math.Seq.{take-append_seam}
+use Rattle.std.proofs.lemmas.List.{length-append, take-append-le}
 use Rattle.std.proofs.lemmas.List.Elements.{All-append, All-cons, All-nil, All-weaker}
 use Rattle.std.proofs.lemmas.List.Sums.{sum_by-append}
 use Rattle.elf_spec.specs.declared.NewSegment.{NewSegment}
@@ -16,7 +17,10 @@ use Rattle.elf_spec.specs.Records.{segments_of}
 use Rattle.elf_read.specs.declared.refusals.ElfRefusal.TheVariants.{SegmentOut, SegmentOverlap, TooLarge}
 use Rattle.elf_read.specs.Checks.{is_segment_out, load_size, meets}
 use Rattle.elf_read.specs.Readable.{IsInside as IsSegmentInside, IsLoadedInside}
-use Rattle.elf_read.specs.Refusals.{memory_size, overlap_after, segment_out, segment_overlap, too_large, when}
+use Rattle.first_check.specs.First.{first_from, first_item, when}
+use Rattle.first_check.proofs.Checks.{both_none, when_not}
+use Rattle.first_check.proofs.Items.{from_join, item_none, item_passes}
+use Rattle.elf_read.specs.Refusals.{memory_size, overlap_refusal, segment_out, segment_overlap, too_large}
 use Rattle.elf_write.specs.Ends.{contents_end, new_length}
 use Rattle.elf_write.specs.Kept.{AreAbove, AreAddedAbove, DoHeadersPass, all_headers}
 use Rattle.elf_write.specs.Layout.{added_header, added_headers, headers_added}
@@ -63,20 +67,13 @@ below_end (h ∷ hs) from = at (is_loaded h) refl (below_end hs from) (below_end
         All-cons (λ g. is_loaded g ≡ true → g.vaddr + g.mem_size ≤ fold (λ end s. max end (s.vaddr + s.mem_size)) from
         (filter is_loaded hs)) h hs (λ f. absurd (let q : true ≡ false = sym f ∙ e in cc)) rest
 
--- headers behind others meet none where they meet none of those
-overlap_join : (front xs ys : List Segment) (i : ℕ) → overlap_after front i xs ≡ None
-    → ((j : ℕ) → overlap_after (front ++ xs) j ys ≡ None) → overlap_after front i (xs ++ ys) ≡ None
-overlap_join front [] ys i h g = subst (λ x. overlap_after x i ys ≡ None) (append-nil front) (g i)
-overlap_join front (s ∷ ss) ys i h g =
-    at (list_any (λ t. meets t s) front) h (λ k. overlap_join (front ++ s ∷ []) ss ys (i + 1) k
-    (λ j. subst (λ x. overlap_after x j ys ≡ None) (sym (append_assoc front (s ∷ []) ss)) (g j)))
-  where
-    at : (b : Bool) → (if b then Some i else overlap_after (front ++ s ∷ []) (i + 1) ss) ≡ None
-        → (overlap_after (front ++ s ∷ []) (i + 1) ss ≡ None
-        → overlap_after (front ++ s ∷ []) (i + 1) (ss ++ ys) ≡ None)
-        → (if b then Some i else overlap_after (front ++ s ∷ []) (i + 1) (ss ++ ys)) ≡ None
-    at true d rest = absurd (cc)
-    at false d rest = rest d
+-- headers with others behind them meet none before them where they met none without those
+old_apart : (old added : List Segment) → first_item (overlap_refusal old) old ≡ None
+    → first_item (overlap_refusal (old ++ added)) old ≡ None
+old_apart old added h = item_none (overlap_refusal (old ++ added)) old (λ k d low.
+    let few : k ≤ length old = omega (arith, low) in
+    subst (λ before. when (list_any (λ t. meets t (get_or old k d)) before) (SegmentOverlap k) ≡ None)
+    (sym (take-append-le k old added few)) (item_passes (overlap_refusal old) old h k d low))
 
 none_any : {A : Type 0} (p : A → Bool) (xs : List A) → All (λ x. p x ≡ false) xs → list_any p xs ≡ false
 none_any p [] h = refl
@@ -108,22 +105,32 @@ apart k m v n o f w q b h l g = at (nat_eq k 1 && nat_lt 0 m) refl
     at true e = let (c, d) = h e in grind (arith, nat_tests)
     at false e = refl
 
-added_apart : (ss : List NewSegment) (low end : ℕ) (front : List Segment) (i : ℕ) → All (IsBelow low end) front
-    → AreAbove low ss → overlap_after front i (added_headers end ss) ≡ None
-added_apart [] low end front i h w = refl
-added_apart (s ∷ ss) low end front i h (above, fits, below, rest) =
+added_apart : (ss : List NewSegment) (low end : ℕ) (front all : List Segment) → All (IsBelow low end) front
+    → AreAbove low ss → front ++ added_headers end ss ≡ all
+    → first_from (overlap_refusal all) (length front) (added_headers end ss) ≡ None
+added_apart [] low end front all h w same = refl
+added_apart (s ∷ ss) low end front all h (above, fits, below, rest) same =
     let new : Segment = added_header (up4096 end) s in
+    let more : List Segment = added_headers (up4096 end + length s.bytes) ss in
     let none : list_any (λ t. meets t new) front ≡ false =
     none_any (λ t. meets t new) front (All-weaker (IsBelow low end) (λ t. meets t new ≡ false)
     (λ t b. apart t.kind t.mem_size t.vaddr s.mem_size t.offset t.file_size s.vaddr (up4096 end) _
     (λ e. let (c, d) = b e in (omega arith, omega arith)) 0 (length s.bytes)) front h) in
+    let before : take (length front) all ≡ front =
+    subst (λ (x : List Segment). take (length front) x ≡ front) same (take-append_seam front (new ∷ more)) in
     let next : All (IsBelow (s.vaddr + s.mem_size) (up4096 end + length s.bytes)) (front ++ new ∷ []) =
     All-append (IsBelow (s.vaddr + s.mem_size) (up4096 end + length s.bytes)) front (new ∷ [])
     (All-weaker (IsBelow low end) (IsBelow (s.vaddr + s.mem_size) (up4096 end + length s.bytes))
     (λ t b e. let (c, d) = b e in (omega arith, omega arith)) front h)
     (All-cons (IsBelow (s.vaddr + s.mem_size) (up4096 end + length s.bytes)) new [] (λ e. (omega arith, omega arith))
     (All-nil (IsBelow (s.vaddr + s.mem_size) (up4096 end + length s.bytes)))) in
-    rw none (added_apart ss (s.vaddr + s.mem_size) (up4096 end + length s.bytes) (front ++ new ∷ []) (i + 1) next rest)
+    let place : length (front ++ new ∷ []) ≡ length front + 1 = length-append front (new ∷ []) in
+    both_none (overlap_refusal all (length front) new) (first_from (overlap_refusal all) (length front + 1) more)
+    (when_not (list_any (λ t. meets t new) (take (length front) all)) (SegmentOverlap (length front))
+    (ap (list_any (λ t. meets t new)) before ∙ none))
+    (subst (λ i. first_from (overlap_refusal all) i more ≡ None) place
+    (added_apart ss (s.vaddr + s.mem_size) (up4096 end + length s.bytes) (front ++ new ∷ []) all next rest
+    (append_assoc front (new ∷ []) more ∙ same)))
 
 -- a header that lies inside passes
 passes_inside : (k m f o v bytes b : ℕ) → ((nat_eq k 1 && nat_lt 0 m) ≡ true → (f ≤ m) × (o + f ≤ bytes) × (v + m ≤ b))
@@ -171,9 +178,12 @@ above_pass old ss inside overlap w = record {
       (All-weaker (IsLoadedInside (length old)) (λ s. is_segment_out (new_length old ss) s ≡ false)
       (λ s. old_passes (length old) (new_length old ss) s longer) (segments_of old) inside)
       (added_pass ss (image_end (segments_of old)) (table_end old ss) w.above)));
-  apart = ap (option_map SegmentOverlap) (overlap_join [] (segments_of old) (headers_added old ss) 0
-      (no_index (overlap_after [] 0 (segments_of old)) overlap)
-      (λ j. added_apart ss (image_end (segments_of old)) (table_end old ss) (segments_of old) j below w.above));
+  apart = from_join (overlap_refusal (all_headers old ss)) 0 (segments_of old) (headers_added old ss)
+      (old_apart (segments_of old) (headers_added old ss) overlap)
+      (let place : 0 + length (segments_of old) ≡ length (segments_of old) = omega arith in
+      subst (λ i. first_from (overlap_refusal (all_headers old ss)) i (headers_added old ss) ≡ None) (sym place)
+      (added_apart ss (image_end (segments_of old)) (table_end old ss) (segments_of old) (all_headers old ss) below
+      w.above refl));
   small = passed (memory_size (all_headers old ss)) (sum_by-append load_size (segments_of old) (headers_added old ss)
       ∙ ap (λ n. memory_size (segments_of old) + n) (added_size ss (table_end old ss)));
 }
@@ -181,10 +191,6 @@ above_pass old ss inside overlap w = record {
     longer : length old ≤ new_length old ss
     longer = let e : table_end old ss + length (contents (table_end old ss) ss) ≡ new_length old ss =
         length-contents ss (table_end old ss) in omega arith
-
-    no_index : (o : Option ℕ) → option_map SegmentOverlap o ≡ None → o ≡ None
-    no_index None h = refl
-    no_index (Some i) h = absurd (cc)
 
     below : All (IsBelow (image_end (segments_of old)) (table_end old ss)) (segments_of old)
     below = λ k d l e.

@@ -1,6 +1,6 @@
 -- A new file of a readable file is readable where its tables are kept and its program headers pass.
-use Rattle.std.proofs.Common.{◌≡◌, ℕ, zero, suc, ◌+◌, ◌-◌, ◌*◌, ◌/◌, ◌<◌, ◌≤◌, ◌==◌, Bool, true, false, not, ◌&&◌, ◌||◌}
-use Rattle.std.proofs.Common.{if◌then◌else◌, List, [], ◌∷◌, ◌++◌, length, take, nat_eq, nat_lt, refl, sym, ap, ◌∙◌}
+use Rattle.std.proofs.Common.{◌≡◌, ℕ, zero, suc, ◌+◌, ◌-◌, ◌*◌, ◌/◌, ◌<◌, ◌≤◌, ◌==◌, Bool, false, not, ◌&&◌, ◌||◌}
+use Rattle.std.proofs.Common.{if◌then◌else◌, List, [], ◌∷◌, length, take, nat_eq, nat_lt, refl, sym, ap, ◌∙◌}
 use Rattle.std.proofs.Common.{subst, arith, inl, inr, Option, Some, None}
 use Rattle.std.specs.Prelude.{find, bytes_eq, bit_and}
 use Rattle.std.specs.List.{All, list_any}
@@ -8,7 +8,6 @@ use Rattle.std.specs.Option.{option_map, option_or}
 use Rattle.std.proofs.lemmas.Bool.Decides.{nat_tests}
 use Rattle.elf_spec.specs.declared.Patch.{Patch}
 use Rattle.elf_spec.specs.declared.NewSegment.{NewSegment}
-use Rattle.elf_spec.specs.declared.Segment.{Segment}
 use Rattle.elf_spec.specs.declared.Section.{Section}
 use Rattle.elf_spec.specs.Fields.{byte_at, word_at}
 use Rattle.elf_spec.specs.NewFile.{contents, table_end, up16, up4096}
@@ -16,41 +15,26 @@ use Rattle.elf_spec.specs.Records.{e_flags, e_machine, e_phentsize, e_phnum, e_p
 use Rattle.elf_spec.specs.Records.{e_type, e_version, sections_of, segments_of}
 use Rattle.elf_spec.specs.Relocations.{is_at}
 use Rattle.elf_spec.specs.Tables.{is_symtab, strings_of, symtab_index}
-use Rattle.elf_read.specs.declared.refusals.ElfRefusal.{ElfRefusal}
 use Rattle.elf_read.specs.declared.refusals.ElfRefusal.TheVariants.{NotElf, WrongClass, WrongOrder, WrongVersion}
-use Rattle.elf_read.specs.declared.refusals.ElfRefusal.TheVariants.{NotExec, NotRiscv, Flags, TableOut, SegmentKind}
+use Rattle.elf_read.specs.declared.refusals.ElfRefusal.TheVariants.{NotExec, NotRiscv, Flags, TableOut}
 use Rattle.elf_read.specs.declared.refusals.ElfRefusal.TheVariants.{SectionOut, NameOut}
 use Rattle.elf_read.specs.declared.refusals.Table.TheVariants.{Program, Section as SectionTable}
-use Rattle.elf_read.specs.Checks.{is_bad_table, is_name_out, is_program_table_out, is_refused_kind}
+use Rattle.elf_read.specs.Checks.{is_bad_table, is_name_out, is_program_table_out}
 use Rattle.elf_read.specs.Checks.{is_section_table_out, is_table_out, leaves_file}
 use Rattle.elf_read.specs.Elf.{IsReadable}
 use Rattle.elf_read.specs.Readable.{ReadableFacts}
-use Rattle.elf_read.specs.Refusals.{◌or_else◌, first_below, header_refusal, kind_from, name_out, name_out_in, not_elf}
-use Rattle.elf_read.specs.Refusals.{bad_flags, not_exec, not_riscv, section_from, section_out, section_table_out}
-use Rattle.elf_read.specs.Refusals.{segment_kind, segment_out, segment_overlap, too_large, too_many, when, wrong_class}
+use Rattle.first_check.specs.First.{first_below, first_from, when}
+use Rattle.first_check.proofs.Checks.{both_none, none_both, not_when, when_not}
+use Rattle.first_check.proofs.Items.{from_join}
+use Rattle.elf_read.specs.Refusals.{header_refusal, kind_refusal, name_out, name_out_in, not_elf}
+use Rattle.elf_read.specs.Refusals.{bad_flags, not_exec, not_riscv, section_refusal, section_out, section_table_out}
+use Rattle.elf_read.specs.Refusals.{segment_kind, segment_out, segment_overlap, too_large, too_many, wrong_class}
 use Rattle.elf_read.specs.Refusals.{wrong_order, wrong_version, program_table_out}
 use Rattle.elf_write.specs.Ends.{new_length}
 use Rattle.elf_write.specs.Kept.{AllTables, AreFieldsAlone, AreTablesUnpatched, DoHeadersPass}
 use Rattle.elf_write.specs.Layout.{IsBeside, IsKept, NewLayout, added_headers}
 use Rattle.elf_write.proofs.Headers.{length-contents}
 use Rattle.elf_write.proofs.LayoutLaw.{header_kept}
-
--- two checks refuse together what either does
-parts_none : (p q : Option ElfRefusal) → (p or_else q) ≡ None → (p ≡ None) × (q ≡ None)
-parts_none None q h = (refl, h)
-parts_none (Some why) q h = absurd (cc)
-
-both_none : (p q : Option ElfRefusal) → p ≡ None → q ≡ None → (p or_else q) ≡ None
-both_none None q h g = g
-both_none (Some why) q h g = absurd (cc)
-
-unless : (b : Bool) (why : ElfRefusal) → when b why ≡ None → b ≡ false
-unless true why h = absurd (cc)
-unless false why h = refl
-
-passed : (b : Bool) (why : ElfRefusal) → b ≡ false → when b why ≡ None
-passed true why h = absurd (cc)
-passed false why h = refl
 
 -- the checks of the header over the fields that they read
 abbrev magic_number : List ℕ
@@ -113,25 +97,25 @@ header_new old ps ss new l h long w some few =
     let long_new : length new ≡ new_length old ss = l.length_is in
     let end : table_end old ss + length (contents (table_end old ss) ss) ≡ new_length old ss =
     length-contents ss (table_end old ss) in
-    let (a, h1) = parts_none (not_elf old) _ h in
-    let (b, h2) = parts_none (wrong_class old) _ h1 in
-    let (c, h3) = parts_none (wrong_order old) _ h2 in
-    let (d, h4) = parts_none (wrong_version old) _ h3 in
-    let (e, h5) = parts_none (not_exec old) _ h4 in
-    let (f, h6) = parts_none (not_riscv old) _ h5 in
-    let (g, h7) = parts_none (bad_flags old) _ h6 in
-    let (i, h8) = parts_none (program_table_out old) _ h7 in
-    let (j, k) = parts_none (section_table_out old) (too_many old) h8 in
+    let (a, h1) = none_both (not_elf old) _ h in
+    let (b, h2) = none_both (wrong_class old) _ h1 in
+    let (c, h3) = none_both (wrong_order old) _ h2 in
+    let (d, h4) = none_both (wrong_version old) _ h3 in
+    let (e, h5) = none_both (not_exec old) _ h4 in
+    let (f, h6) = none_both (not_riscv old) _ h5 in
+    let (g, h7) = none_both (bad_flags old) _ h6 in
+    let (i, h8) = none_both (program_table_out old) _ h7 in
+    let (j, k) = none_both (section_table_out old) (too_many old) h8 in
     let size : e_phentsize old ≡ 32 = entry_size_is (length old) 32 (e_phoff old) (e_phentsize old) (e_phnum old)
-    (unless (is_program_table_out old) (TableOut Program) i) some in
+    (not_when (is_program_table_out old) (TableOut Program) i) some in
     let table : is_table_out (length new) 32 (e_phoff new) (e_phentsize new) (e_phnum new) ≡ false =
     table_in (length new) 32 (e_phoff new) (e_phentsize new) (e_phnum new) (phentsize ∙ size) (omega arith) in
     let sections : is_table_out (length new) 40 (e_shoff old) (e_shentsize old) (e_shnum old) ≡ false =
     table_stays (length old) (length new) 40 (e_shoff old) (e_shentsize old) (e_shnum old)
-    (unless (is_section_table_out old) (TableOut SectionTable) j) l.longer in
+    (not_when (is_section_table_out old) (TableOut SectionTable) j) l.longer in
     let count : nat_lt 100 (e_phnum new) ≡ false = grind (arith, nat_tests) in
-    both_none (not_elf new) _ (passed _ NotElf (magic (length old) (length new) (bytes_eq (take 4 old) magic_number)
-    (bytes_eq (take 4 new) magic_number) (unless _ NotElf a) l.longer
+    both_none (not_elf new) _ (when_not _ NotElf (magic (length old) (length new) (bytes_eq (take 4 old) magic_number)
+    (bytes_eq (take 4 new) magic_number) (not_when _ NotElf a) l.longer
     (ap (λ x. bytes_eq x magic_number) (sym first))))
     (both_none (wrong_class new) _ (subst (λ x. when (not (x == 1)) (WrongClass x) ≡ None) (sym class_same) b)
     (both_none (wrong_order new) _ (subst (λ x. when (not (x == 1)) (WrongOrder x) ≡ None) (sym order_same) c)
@@ -141,23 +125,12 @@ header_new old ps ss new l h long w some few =
     (both_none (not_exec new) _ (subst (λ x. when (not (x == 2)) (NotExec x) ≡ None) (sym type_same) e)
     (both_none (not_riscv new) _ (subst (λ x. when (not (x == 243)) (NotRiscv x) ≡ None) (sym machine_same) f)
     (both_none (bad_flags new) _ (subst (λ x. when (not (bit_and x 15 == 0)) (Flags x) ≡ None) (sym flags_same) g)
-    (both_none (program_table_out new) _ (passed _ (TableOut Program) table)
-    (both_none (section_table_out new) (too_many new) (passed _ (TableOut SectionTable)
-    (rw (shoff, shentsize, shnum) sections)) (passed _ _ count)))))))))
+    (both_none (program_table_out new) _ (when_not _ (TableOut Program) table)
+    (both_none (section_table_out new) (too_many new) (when_not _ (TableOut SectionTable)
+    (rw (shoff, shentsize, shnum) sections)) (when_not _ _ count)))))))))
 
 -- no kind of an added header is refused
-kinds_join : (i : ℕ) (xs ys : List Segment) → kind_from i xs ≡ None → ((j : ℕ) → kind_from j ys ≡ None)
-    → kind_from i (xs ++ ys) ≡ None
-kinds_join i [] ys h g = g i
-kinds_join i (s ∷ ss) ys h g = at (is_refused_kind s.kind) h (λ k. kinds_join (i + 1) ss ys k g)
-  where
-    at : (b : Bool) → (if b then Some (SegmentKind i s.kind) else kind_from (i + 1) ss) ≡ None
-        → (kind_from (i + 1) ss ≡ None → kind_from (i + 1) (ss ++ ys) ≡ None)
-        → (if b then Some (SegmentKind i s.kind) else kind_from (i + 1) (ss ++ ys)) ≡ None
-    at true d rest = absurd (cc)
-    at false d rest = rest d
-
-kinds_added : (ss : List NewSegment) (end j : ℕ) → kind_from j (added_headers end ss) ≡ None
+kinds_added : (ss : List NewSegment) (end j : ℕ) → first_from kind_refusal j (added_headers end ss) ≡ None
 kinds_added [] end j = refl
 kinds_added (s ∷ ss) end j = kinds_added ss (up4096 end + length s.bytes) (j + 1)
 
@@ -166,21 +139,16 @@ leaves_less : (k o z m n : ℕ) (x : Bool) → m ≤ n → ((not (nat_eq k 0) &&
     ≡ false → ((not (nat_eq k 0) && (not (nat_eq k 8) && nat_lt n (o + z))) || x) ≡ false
 leaves_less k o z m n x l h = grind (arith, nat_tests)
 
-sections_longer : (m n : ℕ) (all : List Section) (i : ℕ) (ss : List Section) → m ≤ n → section_from m all i ss ≡ None
-    → section_from n all i ss ≡ None
+sections_longer : (m n : ℕ) (all : List Section) (i : ℕ) (ss : List Section) → m ≤ n
+    → first_from (section_refusal m all) i ss ≡ None → first_from (section_refusal n all) i ss ≡ None
 sections_longer m n all i [] l h = refl
 sections_longer m n all i (s ∷ ss) l h =
-    at (leaves_file m s || (is_at (symtab_index all) i && is_bad_table all s))
-    (leaves_file n s || (is_at (symtab_index all) i && is_bad_table all s))
-    (leaves_less s.kind s.offset s.size m n _ l) h (sections_longer m n all (i + 1) ss l)
-  where
-    at : (b c : Bool) → (b ≡ false → c ≡ false) → (if b then Some (SectionOut i) else section_from m all (i + 1) ss)
-        ≡ None
-        → (section_from m all (i + 1) ss ≡ None → section_from n all (i + 1) ss ≡ None)
-        → (if c then Some (SectionOut i) else section_from n all (i + 1) ss) ≡ None
-    at true c f d rest = absurd (cc)
-    at false c f d rest = subst (λ x. (if x then Some (SectionOut i) else section_from n all (i + 1) ss) ≡ None)
-        (sym (f refl)) (rest d)
+    let (here, rest) = none_both (section_refusal m all i s) (first_from (section_refusal m all) (i + 1) ss) h in
+    both_none (section_refusal n all i s) (first_from (section_refusal n all) (i + 1) ss)
+    (when_not (leaves_file n s || (is_at (symtab_index all) i && is_bad_table all s)) (SectionOut i)
+    (leaves_less s.kind s.offset s.size m n _ l
+    (not_when (leaves_file m s || (is_at (symtab_index all) i && is_bad_table all s)) (SectionOut i) here)))
+    (sections_longer m n all (i + 1) ss l rest)
 
 -- equal tests have equal first numbers
 below_same : (p q : ℕ → Bool) (n : ℕ) → ((i : ℕ) → i < n → p i ≡ q i) → first_below p n ≡ first_below q n
@@ -268,17 +236,18 @@ pub readable_new : (old : List ℕ) (ps : List Patch) (ss : List NewSegment) (ne
     → DoHeadersPass old ss → IsReadable new
 unfolding segment_kind section_out
 readable_new old ps ss new l h facts w few beside alone pass =
-    let (a, h1) = parts_none (header_refusal old) _ h in
-    let (b, h2) = parts_none (segment_kind (segments_of old)) _ h1 in
-    let (c, h3) = parts_none (segment_out (length old) (segments_of old)) _ h2 in
-    let (d, h4) = parts_none (segment_overlap (segments_of old)) _ h3 in
-    let (e, h5) = parts_none (too_large (segments_of old)) _ h4 in
-    let (f, g) = parts_none (section_out (length old) (sections_of old)) (name_out old (sections_of old)) h5 in
+    let (a, h1) = none_both (header_refusal old) _ h in
+    let (b, h2) = none_both (segment_kind (segments_of old)) _ h1 in
+    let (c, h3) = none_both (segment_out (length old) (segments_of old)) _ h2 in
+    let (d, h4) = none_both (segment_overlap (segments_of old)) _ h3 in
+    let (e, h5) = none_both (too_large (segments_of old)) _ h4 in
+    let (f, g) = none_both (section_out (length old) (sections_of old)) (name_out old (sections_of old)) h5 in
     let kept : AllTables (IsKeptPart old ps) old = tables_kept old ps (tables_inside old facts) beside alone in
     let same : sections_of new ≡ sections_of old = l.sections w kept.sections in
     both_none (header_refusal new) _ (header_new old ps ss new l a facts.long w pass.some few)
-    (both_none (segment_kind (segments_of new)) _ (ap (kind_from 0) l.headers
-    ∙ kinds_join 0 (segments_of old) (added_headers (table_end old ss) ss) b (kinds_added ss (table_end old ss)))
+    (both_none (segment_kind (segments_of new)) _ (ap (first_from kind_refusal 0) l.headers
+    ∙ from_join kind_refusal 0 (segments_of old) (added_headers (table_end old ss) ss) b
+    (kinds_added ss (table_end old ss) (0 + length (segments_of old))))
     (both_none (segment_out (length new) (segments_of new)) _
     (ap (λ n. segment_out n (segments_of new)) l.length_is
     ∙ (ap (segment_out (new_length old ss)) l.headers ∙ pass.inside))
@@ -291,7 +260,7 @@ readable_new old ps ss new l h facts w few beside alone pass =
 
 pub none_overlaps : (old : List ℕ) → IsReadable old → segment_overlap (segments_of old) ≡ None
 none_overlaps old h =
-    let (a, h1) = parts_none (header_refusal old) _ h in
-    let (b, h2) = parts_none (segment_kind (segments_of old)) _ h1 in
-    let (c, h3) = parts_none (segment_out (length old) (segments_of old)) _ h2 in
-    (parts_none (segment_overlap (segments_of old)) _ h3).0
+    let (a, h1) = none_both (header_refusal old) _ h in
+    let (b, h2) = none_both (segment_kind (segments_of old)) _ h1 in
+    let (c, h3) = none_both (segment_out (length old) (segments_of old)) _ h2 in
+    (none_both (segment_overlap (segments_of old)) _ h3).0

@@ -18,7 +18,8 @@ use Rattle.elf_spec.specs.Memory.{image_end, is_loaded}
 use Rattle.elf_spec.specs.Records.{e_entry, e_phnum, sections_of, segments_of}
 use Rattle.elf_read.specs.Checks.{is_shared}
 use Rattle.elf_read.specs.Readable.{IsInside, IsLoadedInside, ReadableFacts}
-use Rattle.elf_read.specs.Refusals.{first_below, memory_size, when}
+use Rattle.first_check.specs.First.{first_below, when}
+use Rattle.elf_read.specs.Refusals.{memory_size}
 use Rattle.exec_image.specs.declared.refusals.FileRefusal.TheVariants.{AlreadyRewritten, EntryOut, HeapEntrySmall}
 use Rattle.exec_image.specs.declared.refusals.FileRefusal.TheVariants.{ImageTooLarge, TpUsed}
 use Rattle.exec_image.specs.declared.refusals.ImagePart.TheVariants.{Headers, Bytes}

@@ -1,7 +1,7 @@
 -- What is found in a list, and tests over parts of lists.
 use Rattle.std.proofs.Common.{◌≡◌, ℕ, zero, suc, ◌+◌, ◌<◌, ◌≤◌, ◌↔◌, option_map, ◌&&◌, ◌||◌, Bool, true, false, List}
 use Rattle.std.proofs.Common.{[], ◌∷◌, length, map, nat_lt, refl, ap, sym, ◌∙◌, arith, Option, Some, None, add-one}
-use Rattle.elf_read.specs.Refusals.{first_below}
+use Rattle.first_check.specs.First.{first_below}
 use Rattle.std.specs.List.{All, AllPairs, filter, find, list_any, position, position_or_len}
 use Rattle.std.proofs.lemmas.Bool.Decides.{nat_tests}
 use Rattle.std.proofs.lemmas.List.Elements.{All-cons, All-head, All-nil, All-tail}

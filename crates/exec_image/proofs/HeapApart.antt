@@ -12,7 +12,7 @@ use Rattle.elf_spec.specs.declared.HeapName.TheVariants.{Malloc, Calloc, Realloc
 use Rattle.elf_spec.specs.declared.HeapName.TheVariants.{FreeR}
 use Rattle.elf_spec.specs.Heap.{heap_entry, heap_names}
 use Rattle.elf_read.specs.Checks.{is_shared}
-use Rattle.elf_read.specs.Refusals.{when}
+use Rattle.first_check.specs.First.{when}
 use Rattle.exec_image.specs.declared.refusals.FileRefusal.TheVariants.{HeapEntryTwice}
 use Rattle.exec_image.specs.HeapChecks.{has_two_values, is_overlap, is_twice}
 use Rattle.exec_image.specs.Refusals.{heap_entry_twice, twice_from}

@@ -7,7 +7,7 @@ use Rattle.elf_spec.specs.declared.Segment.{Segment}
 use Rattle.elf_spec.specs.Memory.{image_end, is_loaded}
 use Rattle.elf_spec.specs.Records.{e_phnum, sections_of, segments_of}
 use Rattle.elf_read.specs.Refusals.{memory_size, refusal}
-use Rattle.elf_read.specs.Refusals.{◌or_else◌, when}
+use Rattle.first_check.specs.First.{◌or_else◌, when}
 use Rattle.reloc_table.specs.Refusals.{reloc_refusal}
 use Rattle.exec_image.specs.declared.refusals.FileRefusal.{FileRefusal}
 use Rattle.exec_image.specs.declared.refusals.FileRefusal.TheVariants.{Elf, Relocs, ImageTooLarge}

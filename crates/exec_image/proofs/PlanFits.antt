@@ -15,7 +15,7 @@ use Rattle.std.proofs.lemmas.List.Kept.{AllPairs-cons}
 use Rattle.std.proofs.lemmas.Map.Made.{IsDistinct-from_AllPairs}
 use Rattle.std.proofs.lemmas.Map.Steps.{length-le_from_distinct_below}
 use Rattle.std.proofs.lemmas.Nat.{bit_set_by_shift}
-use Rattle.elf_read.specs.Refusals.{first_below}
+use Rattle.first_check.specs.First.{first_below}
 use Rattle.plan_core.specs.declared.types.Plan.{Plan}
 use Rattle.plan_core.specs.declared.types.PlanLine.{PlanLine}
 use Rattle.plan_core.specs.declared.types.Row.{Row}
@@ -24,7 +24,8 @@ use Rattle.site_spec.specs.declared.Site.{Site}
 use Rattle.site_spec.specs.Places.{reaches, stub_at, text_at}
 use Rattle.site_spec.specs.Plans.{Fits, IsInReach}
 use Rattle.site_spec.specs.Sites.{site_at}
-use Rattle.elf_read.specs.Refusals.{◌or_else◌, Says, when}
+use Rattle.first_check.specs.First.{◌or_else◌, when}
+use Rattle.first_check.specs.Answers.{Says}
 use Rattle.exec_image.specs.declared.plan_fault.PlanFault.{PlanFault}
 use Rattle.exec_image.specs.declared.plan_fault.PlanFault.TheVariants.{PlanSite, PlanBit, PlanRow, AreaTooLarge}
 use Rattle.exec_image.specs.declared.plan_fault.PlanFault.TheVariants.{SiteOutOfReach}

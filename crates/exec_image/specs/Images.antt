@@ -12,7 +12,7 @@ use Rattle.site_spec.specs.Sites.{site_at}
 use Rattle.exec_image.specs.declared.execs.Exec.{Exec}
 use Rattle.exec_image.specs.declared.refusals.FileRefusal.{FileRefusal}
 use Rattle.exec_image.specs.declared.refusals.FileRefusal.TheVariants.{Memory}
-use Rattle.elf_read.specs.Refusals.{GivesOrRefuses}
+use Rattle.first_check.specs.Answers.{GivesOrRefuses}
 use Rattle.exec_image.specs.Refusals.{file_refusal}
 
 -- no check refuses the file

@@ -3,7 +3,7 @@
 use Rattle.std.specs.Prelude.{ℕ, ◌+◌, ◌^◌, ◌==◌, Bool, false, not, ◌&&◌, ◌||◌, List, [], ◌∷◌, ◌++◌, Option, Some, None}
 use Rattle.std.specs.Prelude.{is_some, option_map, nat_le, nat_lt, bit_and}
 use Rattle.std.specs.List.{list_any}
-use Rattle.elf_read.specs.Refusals.{first_below}
+use Rattle.first_check.specs.First.{first_below}
 use Rattle.plan_core.specs.declared.types.Area.{Area}
 use Rattle.plan_core.specs.declared.types.Plan.{Plan}
 use Rattle.plan_core.specs.declared.types.PlanLine.{PlanLine}
@@ -12,7 +12,7 @@ use Rattle.plan_core.specs.Plan.{granules}
 use Rattle.site_spec.specs.declared.Site.{Site}
 use Rattle.site_spec.specs.Places.{reaches, stub_at, text_at}
 use Rattle.site_spec.specs.Sites.{site_at}
-use Rattle.elf_read.specs.Refusals.{◌or_else◌, when}
+use Rattle.first_check.specs.First.{◌or_else◌, when}
 use Rattle.exec_image.specs.declared.plan_fault.PlanFault.{PlanFault}
 use Rattle.exec_image.specs.declared.plan_fault.PlanFault.TheVariants.{PlanSite, PlanBit, PlanRow, AreaTooLarge}
 use Rattle.exec_image.specs.declared.plan_fault.PlanFault.TheVariants.{SiteOutOfReach}

@@ -9,8 +9,9 @@ use Rattle.elf_spec.specs.Code.{code_word, is_executable}
 use Rattle.elf_spec.specs.Heap.{heap_names}
 use Rattle.elf_spec.specs.Memory.{image_end}
 use Rattle.elf_spec.specs.Records.{e_entry, e_phnum, sections_of, segments_of}
-use Rattle.elf_read.specs.Refusals.{first_below, memory_size, refusal}
-use Rattle.elf_read.specs.Refusals.{◌or_else◌, when}
+use Rattle.first_check.specs.First.{first_below}
+use Rattle.elf_read.specs.Refusals.{memory_size, refusal}
+use Rattle.first_check.specs.First.{◌or_else◌, when}
 use Rattle.reloc_table.specs.Refusals.{reloc_refusal}
 use Rattle.exec_image.specs.declared.refusals.FileRefusal.{FileRefusal}
 use Rattle.exec_image.specs.declared.refusals.FileRefusal.TheVariants.{Memory, Elf, Relocs, ExecNotWords, ExecOutside}
@@ -82,8 +83,3 @@ image_refusal file = exec_not_words (sections_of file) or_else exec_outside file
 abbrev pub file_refusal : List ℕ → Option FileRefusal
 file_refusal file =
     option_map Elf (refusal file) or_else option_map Relocs (reloc_refusal file) or_else image_refusal file
-
--- a check that takes memory says no more than whether, and why, it refuses; memory may lack
-abbrev pub MaySay : Result (Unit {0}) FileRefusal → Option FileRefusal → Type 0
-MaySay (Ok x) o = o ≡ None
-MaySay (Err why) o = (o ≡ Some why) ⊎ (why ≡ Memory)

@@ -2,7 +2,7 @@
 
 ghost use Rattle.std.specs.Prelude.{◌≡◌, ◌≢◌, ◌<◌, ◌^◌, Err, length};
 ghost use Rattle.elf_read.specs.Elf.{IsReadFrom};
-ghost use Rattle.elf_read.specs.Refusals.{Says};
+ghost use Rattle.first_check.specs.Answers.{Says};
 ghost use Rattle.exec_image.specs.CodeParts.{IsCode, IsHeap};
 ghost use Rattle.exec_image.specs.Images.{GivesImage};
 ghost use Rattle.exec_image.specs.Refusals.{rest_refusal};

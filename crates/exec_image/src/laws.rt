@@ -5,7 +5,8 @@ ghost use Rattle.site_spec.specs.Sites.{site_at};
 ghost use Rattle.exec_image.specs.Accepted.{AcceptedFacts};
 ghost use Rattle.exec_image.specs.Images.{IsAccepted};
 
-use elf_read::{readable_files_keep_their_facts, the_first_number_that_passes_is_found};
+use elf_read::readable_files_keep_their_facts;
+use first_check::the_first_number_that_passes_is_found;
 
 /// No two sites of a file share a return address: so the address to which a call returns tells which
 /// site it came from.

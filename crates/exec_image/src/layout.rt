@@ -6,12 +6,12 @@ ghost use Rattle.std.specs.List.{list_any};
 ghost use Rattle.elf_spec.specs.Code.{is_executable};
 ghost use Rattle.elf_spec.specs.Records.{e_entry, sections_of, segments_of};
 ghost use Rattle.elf_read.specs.Readable.{IsSectionInside};
-ghost use Rattle.elf_read.specs.Refusals.{Says};
+ghost use Rattle.first_check.specs.Answers.{MaySay, Says};
 ghost use Rattle.elf_read.specs.Elf.{IsReadFrom};
 ghost use Rattle.exec_image.specs.Checks.{descriptions, is_not_words, is_place_of};
 ghost use Rattle.exec_image.specs.CodeParts.{IsCode};
 ghost use Rattle.exec_image.specs.Parts.{StandsFor, parts_of};
-ghost use Rattle.exec_image.specs.Refusals.{MaySay, entry_out, exec_not_words, exec_outside, is_outside};
+ghost use Rattle.exec_image.specs.Refusals.{entry_out, exec_not_words, exec_outside, is_outside};
 
 use crate::code::is_code_word;
 use crate::descriptions::read_descriptions;
@@ -99,7 +99,7 @@ fn first_outside(
 #[tactic(auto, using(crate::proofs::Headers::few_sections), unfolding(crate::specs::Refusals::exec_outside))]
 pub fn check_outside(alloc: Global, elf: &Elf, file: &[u8]) -> Result<(), FileRefusal>
     requires { IsReadFrom elf.now file.now }
-    ensures { MaySay result (exec_outside file.now) }
+    ensures { MaySay FileRefusal.Memory result (exec_outside file.now) }
 {
     let Ok(described) = read_descriptions(alloc, elf, file) else {
         return Err(FileRefusal::Memory);

@@ -4,7 +4,7 @@ ghost use Rattle.std.specs.Prelude.{◌≡◌, ◌==◌, ◌<◌, ◌≤◌, ◌
 ghost use Rattle.std.specs.List.{list_any};
 ghost use Rattle.plan_core.specs.Plan.{granules};
 ghost use Rattle.site_spec.specs.Places.{text_at};
-ghost use Rattle.elf_read.specs.Refusals.{Says};
+ghost use Rattle.first_check.specs.Answers.{Says};
 ghost use Rattle.site_spec.specs.Plans.{Fits};
 ghost use Rattle.exec_image.specs.PlanFaults.{area_too_large, bad_row, is_far, is_strange_bit, no_bit, no_site};
 ghost use Rattle.exec_image.specs.PlanFaults.{out_of_reach, plan_fault, strange_mask, strange_masks};
@@ -13,7 +13,7 @@ ghost use Rattle.exec_image.specs.Images.{AreSites};
 use crate::image::Image;
 use crate::plan_fault::PlanFault;
 use crate::sites::{find_site, reaches, stub_place};
-use elf_read::the_first_number_that_passes_is_found;
+use first_check::the_first_number_that_passes_is_found;
 use plan_core::{Area, Plan, PlanLine, Row};
 use site_spec::Site;
 

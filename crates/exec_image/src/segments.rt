@@ -5,7 +5,7 @@ ghost use Rattle.std.specs.List.{list_any};
 ghost use Rattle.elf_spec.specs.Memory.{image_end, is_loaded};
 ghost use Rattle.elf_spec.specs.Records.{e_phnum, segments_of};
 ghost use Rattle.elf_read.specs.Refusals.{memory_size};
-ghost use Rattle.elf_read.specs.Refusals.{Says};
+ghost use Rattle.first_check.specs.Answers.{Says};
 ghost use Rattle.site_spec.specs.Places.{text_at};
 ghost use Rattle.exec_image.specs.Checks.{ends_above, has_mark};
 ghost use Rattle.exec_image.specs.Refusals.{already_rewritten, image_too_large};

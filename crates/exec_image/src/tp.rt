@@ -1,7 +1,7 @@
 // The check that no code word names x4.
 
 ghost use Rattle.std.specs.Prelude.{◌≡◌, ℕ, ◌<◌, ◌≤◌, false, true, IfNone, IfSome};
-ghost use Rattle.elf_read.specs.Refusals.{Says};
+ghost use Rattle.first_check.specs.Answers.{Says};
 ghost use Rattle.exec_image.specs.Checks.{is_tp_word, uses_tp_at};
 ghost use Rattle.exec_image.specs.CodeParts.{IsCode};
 ghost use Rattle.exec_image.specs.Refusals.{tp_used};
@@ -9,8 +9,8 @@ ghost use Rattle.exec_image.specs.Refusals.{tp_used};
 use crate::code::{code_word, next_code_word};
 use crate::parts::Part;
 use crate::refusals::FileRefusal;
-use elf_read::the_first_number_that_passes_is_found;
 use elf_spec::Segment;
+use first_check::the_first_number_that_passes_is_found;
 use rv_isa::{decode, names};
 
 /// The register that is to hold the sites' bits.

@@ -7,7 +7,7 @@ use Rattle.exec_image.specs.declared.refusals.FileRefusal.{FileRefusal}
 use Rattle.exec_image.specs.declared.plan_fault.PlanFault.{PlanFault}
 use Rattle.exec_image.specs.Refusals.{file_refusal}
 use Rattle.exec_image.specs.PlanFaults.{plan_fault}
-use Rattle.elf_read.specs.Refusals.{◌or_else◌}
+use Rattle.first_check.specs.First.{◌or_else◌}
 use Rattle.rewriter.specs.declared.refusal.RewriteRefusal.TheVariants.{File as BadFile, Plan as Misfit}
 use Rattle.rv_build.specs.Generated.{generated}
 use Rattle.endings.specs.declared.endings.Ending.{Ending}

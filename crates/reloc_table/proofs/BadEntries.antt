@@ -1,18 +1,18 @@
 -- Which entries of a section are refused, by the slots of those that are.
-use Rattle.std.proofs.Common.{◌≡◌, ℕ, zero, suc, ◌+◌, ◌-◌, ◌*◌, ◌/◌, ◌<◌, ◌≤◌, ◌^◌, ◌==◌, ◌&&◌, ◌||◌, Bool, true, false}
+use Rattle.std.proofs.Common.{◌≡◌, ℕ, ◌+◌, ◌-◌, ◌*◌, ◌/◌, ◌<◌, ◌≤◌, ◌^◌, ◌==◌, ◌&&◌, ◌||◌, Bool, true, false}
 use Rattle.std.proofs.Common.{List, [], ◌∷◌, length, nat_le, nat_lt, refl, sym, ap, ◌∙◌, arith, Option, Some, None}
 use Rattle.std.specs.List.{list_any}
 use Rattle.std.proofs.lemmas.Bool.Decides.{nat_tests}
 use Rattle.elf_spec.specs.declared.Reloc.{Reloc}
 use Rattle.elf_spec.specs.declared.Section.{Section}
 use Rattle.elf_spec.specs.Records.{reloc_at}
-use Rattle.elf_read.specs.Refusals.{◌or_else◌, when}
+use Rattle.first_check.proofs.Checks.{first_hit, none_first}
+use Rattle.first_check.specs.First.{◌or_else◌, first_of, when}
 use Rattle.reloc_table.specs.declared.refusals.RelocRefusal.{RelocRefusal}
 use Rattle.reloc_table.specs.declared.refusals.RelocRefusal.TheVariants.{SymbolOut, Tls, Compressed}
 use Rattle.reloc_table.specs.Checks.{is_bad, is_compressed, is_symbol_out, is_tls}
-use Rattle.reloc_table.specs.Refusals.{entry_refusal, first_of, section_refusal}
+use Rattle.reloc_table.specs.Refusals.{entry_refusal, section_refusal}
 use Rattle.reloc_table.specs.Slots.{entry_in, is_bad_at, is_slot_of, slot_at, table_of}
-use Rattle.reloc_table.proofs.First.{first_hit}
 use Rattle.reloc_table.proofs.Once.{slot_in, slot_offset}
 
 -- a test at one number
@@ -71,10 +71,6 @@ unfolding entry_refusal
 passes symbols section entry r h =
     unchosen (is_symbol_out symbols r) (is_tls r) (is_compressed r) (SymbolOut section entry) (Tls r.place)
     (Compressed r.place) h
-
-none_first : {A : Type 0} (f : ℕ → Option A) (n : ℕ) → ((k : ℕ) → k < n → f k ≡ None) → first_of f n ≡ None
-none_first f zero h = refl
-none_first f (suc n) h = rw (none_first f n (λ k l. h k (omega (arith, l))), h n (omega arith)) refl
 
 abbrev pub MarksSection : List ℕ → ℕ → List ℕ → Section → Type 0
 MarksSection file symbols bad s = (a : ℕ) → is_slot_of a (table_of s) ≡ true

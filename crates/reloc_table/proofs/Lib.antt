@@ -1,4 +1,3 @@
-mod First
 pub mod Sections
 pub mod ListTests
 mod Covered

@@ -1,6 +1,6 @@
 -- What the relocations of a file are read as.
 use Rattle.std.specs.Prelude.{ℕ, List, Result}
-use Rattle.elf_read.specs.Refusals.{GivesOrRefuses}
+use Rattle.first_check.specs.Answers.{GivesOrRefuses}
 use Rattle.elf_spec.specs.declared.Reloc.{Reloc}
 use Rattle.elf_spec.specs.Relocations.{relocs_of}
 use Rattle.reloc_table.specs.declared.refusals.RelocRefusal.{RelocRefusal}

@@ -1,6 +1,6 @@
 -- Why the relocations of a file are refused: the first check that they fail, with its item, and the
 -- lowest index.
-use Rattle.std.specs.Prelude.{ℕ, zero, suc, ◌+◌, ◌*◌, ◌/◌, not, List, [], ◌∷◌, length, Option, None, option_map}
+use Rattle.std.specs.Prelude.{ℕ, ◌+◌, ◌*◌, ◌/◌, not, List, length, Option, None, option_map}
 use Rattle.std.specs.Prelude.{position, if◌then◌else◌}
 use Rattle.std.specs.List.{list_any}
 use Rattle.reloc_table.specs.declared.refusals.RelocRefusal.{RelocRefusal}
@@ -11,13 +11,8 @@ use Rattle.elf_spec.specs.declared.Reloc.{Reloc}
 use Rattle.elf_spec.specs.Records.{reloc_at, sections_of}
 use Rattle.elf_spec.specs.Relocations.{is_kept_rela}
 use Rattle.elf_spec.specs.Tables.{symbols_of}
-use Rattle.elf_read.specs.Refusals.{◌or_else◌, when}
+use Rattle.first_check.specs.First.{◌or_else◌, when, first_item, first_of}
 use Rattle.reloc_table.specs.Checks.{has_bad_entries, is_compressed, is_for_code, is_symbol_out, is_tls}
-
--- the first refusal of numbers below n
-abbrev pub first_of : {A : Type 0} → (ℕ → Option A) → ℕ → Option A
-first_of refusal_at zero = None
-first_of refusal_at (suc n) = first_of refusal_at n or_else refusal_at n
 
 -- there are no entries for an executable section
 unfoldable pub no_relocs : List Section → Option RelocRefusal
@@ -38,15 +33,12 @@ unfoldable pub section_refusal : List ℕ → (symbols section : ℕ) → Sectio
 section_refusal file symbols section s =
     first_of (λ k. entry_refusal symbols section k (reloc_at file (s.offset + 12 * k))) (s.size / 12)
 
--- the first refusal of an entry of sections, the first of which has this index
-abbrev pub entries_from : List ℕ → (symbols : ℕ) → List Section → ℕ → List Section → Option RelocRefusal
-entries_from file symbols all i [] = None
-entries_from file symbols all i (s ∷ ss) =
-    (if is_kept_rela all s then section_refusal file symbols i s else None) or_else entries_from file symbols all
-    (i + 1) ss
+-- the first refusal of an entry of a section that is kept
+abbrev pub kept_refusal : List ℕ → (symbols : ℕ) → List Section → ℕ → Section → Option RelocRefusal
+kept_refusal file symbols sections i s = if is_kept_rela sections s then section_refusal file symbols i s else None
 
 unfoldable pub bad_entry : List ℕ → (symbols : ℕ) → List Section → Option RelocRefusal
-bad_entry file symbols sections = entries_from file symbols sections 0 sections
+bad_entry file symbols sections = first_item (kept_refusal file symbols sections) sections
 
 -- all checks, in their order
 abbrev pub reloc_refusal : List ℕ → Option RelocRefusal

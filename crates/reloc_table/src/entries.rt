@@ -6,7 +6,7 @@ ghost use Rattle.std.specs.List.{list_any};
 ghost use Rattle.std.specs.List.Sorted.{IsNonDecreasing};
 ghost use Rattle.elf_spec.specs.Records.{entries, reloc_at};
 ghost use Rattle.reloc_table.specs.Checks.{is_bad, is_compressed, is_tls};
-ghost use Rattle.elf_read.specs.Refusals.{Says};
+ghost use Rattle.first_check.specs.Answers.{Says};
 ghost use Rattle.reloc_table.specs.Refusals.{entry_refusal, section_refusal};
 ghost use Rattle.reloc_table.specs.Slots.{AreBad, AreSlots, IsSlotInside, IsTableInside, entries_of, entry_in};
 ghost use Rattle.reloc_table.specs.Slots.{is_bad_at, is_slot_of, table_of};

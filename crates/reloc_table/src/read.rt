@@ -6,7 +6,7 @@ ghost use Rattle.elf_spec.specs.Relocations.{is_kept_rela};
 ghost use Rattle.elf_spec.specs.Tables.{symtab_index};
 ghost use Rattle.elf_read.specs.Elf.{IsReadFrom};
 ghost use Rattle.elf_read.specs.Readable.{IsSectionInside};
-ghost use Rattle.elf_read.specs.Refusals.{Says};
+ghost use Rattle.first_check.specs.Answers.{Says};
 ghost use Rattle.reloc_table.specs.Refusals.{bad_entry};
 ghost use Rattle.reloc_table.specs.Slots.{AreBad, tables_of};
 ghost use Rattle.reloc_table.specs.Reads.{GivesRelocs};

@@ -7,7 +7,7 @@ ghost use Rattle.elf_spec.specs.Code.{is_executable};
 ghost use Rattle.elf_spec.specs.Relocations.{is_alloc, is_at, is_kept_rela};
 ghost use Rattle.elf_spec.specs.Tables.{symtab_index};
 ghost use Rattle.reloc_table.specs.Checks.{has_bad_entries, is_code, is_for_code};
-ghost use Rattle.elf_read.specs.Refusals.{Says};
+ghost use Rattle.first_check.specs.Answers.{Says};
 ghost use Rattle.reloc_table.specs.Refusals.{entry_size, no_relocs};
 
 use crate::refusals::RelocRefusal;

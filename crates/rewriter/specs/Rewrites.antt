@@ -4,7 +4,7 @@ use Rattle.plan_core.specs.declared.types.Plan.{Plan}
 use Rattle.site_spec.specs.Plans.{Fits}
 use Rattle.new_file_spec.specs.Rewritten.{NewFile}
 use Rattle.elf_read.specs.Elf.{IsReadable}
-use Rattle.elf_read.specs.Refusals.{◌or_else◌}
+use Rattle.first_check.specs.First.{◌or_else◌}
 use Rattle.elf_write.specs.Kept.{AreFieldsAlone}
 use Rattle.exec_image.specs.PlanFaults.{plan_fault}
 use Rattle.exec_image.specs.Refusals.{file_refusal}

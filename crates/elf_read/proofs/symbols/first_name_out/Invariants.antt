@@ -1,6 +1,6 @@
 -- No name so far is out.
 use Rattle.std.proofs.Common.{◌≡◌, None}
-use Rattle.elf_read.specs.Refusals.{first_below}
+use Rattle.first_check.specs.First.{first_below}
 use Rattle.elf_read.specs.Symbols.{is_out_at}
 use Rattle.elf_read.proofs.symbols.first_name_out.Given as goal
 

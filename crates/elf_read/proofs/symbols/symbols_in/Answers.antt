@@ -2,7 +2,7 @@
 use Rattle.std.proofs.Common.{ℕ, ◌+◌, ◌*◌, ◌/◌, ◌<◌, sym, arith}
 use Rattle.elf_spec.specs.Fields.{word_at}
 use Rattle.elf_read.specs.Symbols.{is_out_at}
-use Rattle.elf_read.proofs.Below.{below_none}
+use Rattle.first_check.proofs.Below.{below_none}
 use Rattle.elf_read.proofs.EndedNames.{named}
 use Rattle.elf_read.proofs.symbols.symbols_in.Goals as goal
 

@@ -1,6 +1,6 @@
 -- No bit so far is strange.
 use Rattle.std.proofs.Common.{◌≡◌, None}
-use Rattle.elf_read.specs.Refusals.{first_below}
+use Rattle.first_check.specs.First.{first_below}
 use Rattle.exec_image.specs.PlanFaults.{is_strange_bit}
 use Rattle.exec_image.proofs.plan_check.check_mask.Given as goal
 

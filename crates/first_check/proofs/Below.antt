@@ -2,7 +2,7 @@
 use Rattle.std.proofs.Common.{◌≡◌, ℕ, zero, suc, ◌+◌, ◌<◌, Bool, true, false, refl, ap, sym, ◌∙◌, inl, inr, arith}
 use Rattle.std.proofs.Common.{Option, Some, None, add-one}
 use Rattle.std.proofs.lemmas.Bool.{cases_lt}
-use Rattle.elf_read.specs.Refusals.{first_below}
+use Rattle.first_check.specs.First.{first_below}
 
 pub below_more : (p : ℕ → Bool) (i : ℕ) → first_below p i ≡ None → p i ≡ false → first_below p (i + 1) ≡ None
 below_more p i none h = rw (add-one, none, h) refl

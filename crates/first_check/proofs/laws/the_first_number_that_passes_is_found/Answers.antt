@@ -1,5 +1,5 @@
-use Rattle.elf_read.proofs.Below.{below_hit, below_none, below_all, below_some}
-use Rattle.elf_read.proofs.laws.the_first_number_that_passes_is_found.Goals as goal
+use Rattle.first_check.proofs.Below.{below_hit, below_none, below_all, below_some}
+use Rattle.first_check.proofs.laws.the_first_number_that_passes_is_found.Goals as goal
 
 pub returns : goal.returns
 returns c = record {
