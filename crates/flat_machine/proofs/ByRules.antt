@@ -1,16 +1,16 @@
 -- Steps and reads of the flat machine, as those of any machine.
-use Rattle.std.proofs.Common.{◌≡◌, ℕ, ◌+◌, List, [], ◌++◌, length, refl, ap, sym, ◌∙◌, arith}
+use Rattle.std.proofs.Common.{◌≡◌, ℕ, ◌+◌, List, [], ◌++◌, length, refl, ap, sym, ◌∙◌}
 use Rattle.std.specs.Prelude.{Option, Some, None, MatchOption}
 use Rattle.std.proofs.lemmas.List.{length-append}
 use Rattle.machine_spec.specs.declared.Ending.{Ending}
 use Rattle.machine_spec.specs.declared.Ending.TheVariants as ending
 use Rattle.flat_spec.specs.Stores.{put_bytes}
 use Rattle.flat_spec.specs.Machine.{Machine, register}
-use Rattle.flat_spec.specs.Calls.{Turn, quiet, answers}
+use Rattle.flat_spec.specs.Calls.{quiet, answers}
 use Rattle.flat_spec.specs.Turns.{turn, turn_of}
 use Rattle.machine_run.specs.declared.Stepped.{Stepped}
 use Rattle.machine_run.specs.declared.Stepped.TheVariants.{Went, Wrote, WantsInput, Exited, Illegal, Fault}
-use Rattle.machine_run.specs.Machines.{Input, Wait, Seen, WaitsOn, Stays, fed_with as fed_by}
+use Rattle.machine_run.specs.Machines.{Input, Wait, WaitsOn, Stays, fed_with as fed_by}
 use Rattle.machine_run.specs.Steps.{answer_to, EndsRead, IsWholeRead, StepsTo as StepsAsRules, IsTurn as IsTurnByRules}
 use Rattle.flat_machine.specs.Asks.{asks, IsAtRead}
 use Rattle.flat_machine.specs.Seen.{FlatSeen, FedMore, Completed, between, fed_with}

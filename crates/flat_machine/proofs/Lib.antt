@@ -5,3 +5,4 @@ pub mod Stepping
 pub mod ByRules
 pub mod SameRuns
 pub mod QuietTurns
+pub mod Slots

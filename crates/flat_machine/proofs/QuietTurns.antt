@@ -1,5 +1,5 @@
 -- Turns that neither read, write nor end.
-use Rattle.std.proofs.Common.{◌≡◌, ℕ, zero, suc, ◌+◌, ◌*◌, ◌/◌, List, true, refl, ap, sym, ◌∙◌, add-one, arith}
+use Rattle.std.proofs.Common.{◌≡◌, ℕ, ◌+◌, ◌*◌, ◌/◌, List, true, refl, ap, sym, ◌∙◌, add-one}
 use Rattle.std.specs.Prelude.{Option, Some, None, option_and_then}
 use Rattle.rv_isa.specs.declared.Cond.{Cond}
 use Rattle.rv_isa.specs.declared.Instr.{Instr}
@@ -7,7 +7,6 @@ use Rattle.rv_isa.specs.declared.Instr.TheVariants.{Jal, Jalr, Branch}
 use Rattle.rv_isa.specs.Addresses.{plus}
 use Rattle.rv_isa.specs.Compute.{is_held}
 use Rattle.rv_isa.specs.Table.{decoded}
-use Rattle.machine_spec.specs.declared.Ending.TheVariants.{Running}
 use Rattle.machine_spec.specs.Memory.{Range}
 use Rattle.flat_spec.specs.Stores.{fetched}
 use Rattle.flat_spec.specs.Machine.{Machine, jumps, word_read}

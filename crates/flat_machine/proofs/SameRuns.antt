@@ -1,19 +1,16 @@
 -- Runs by the flat machine's rules are runs of the flat machine.
 use Rattle.std.proofs.Common.{◌≡◌, ℕ, zero, suc, ◌<◌, ◌≤◌, List, [], length, refl, ap, sym, ◌∙◌, inl, inr}
-use Rattle.std.specs.Prelude.{Option, Some, Result, Ok}
+use Rattle.std.specs.Prelude.{Option, Some, Ok}
 use Rattle.machine_spec.specs.declared.Ending.{Ending}
-use Rattle.machine_spec.specs.declared.Ending.TheVariants.{Running}
 use Rattle.flat_spec.specs.Machine.{Machine, register}
-use Rattle.flat_spec.specs.Turns.{turn}
 use Rattle.flat_spec.specs.Runs.{State, step, steps}
 use Rattle.machine_run.specs.declared.RunEnd.{RunEnd}
 use Rattle.machine_run.specs.declared.RunEnd.TheVariants.{Exited, Illegal, Fault, Steps, ReadFault, WriteFault}
-use Rattle.machine_run.specs.Machines.{Output, Input}
+use Rattle.machine_run.specs.Machines.{Input}
 use Rattle.machine_run.specs.Runs as any
-use Rattle.flat_machine.specs.Asks.{asks, IsAtRead}
 use Rattle.flat_machine.specs.Seen.{FlatSeen, fed_with}
 use Rattle.flat_machine.specs.Rules.{flat_rules}
-use Rattle.flat_machine.specs.Runs.{run_from, IsRunning, EndsAt, WroteLast, Answers, IsLeft, IsCutOff, Leaves, Ran}
+use Rattle.flat_machine.specs.Runs.{run_from, IsRunning, EndsAt, Answers, IsLeft, IsCutOff, Leaves, Ran}
 use Rattle.flat_machine.proofs.Waiting.{at_read, wait_of}
 
 abbrev seen_as : State → any.State Machine

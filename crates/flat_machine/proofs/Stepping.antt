@@ -8,7 +8,7 @@ use Rattle.flat_spec.specs.Calls.{Turn}
 use Rattle.flat_spec.specs.Turns.{turn}
 use Rattle.machine_run.specs.declared.Stepped.{Stepped}
 use Rattle.machine_run.specs.declared.Stepped.TheVariants.{Went, Wrote, WantsInput, Exited, Illegal, Fault}
-use Rattle.machine_run.specs.Machines.{Asks, Nothing, Input, Output, Wait}
+use Rattle.machine_run.specs.Machines.{Asks, Nothing, Input, Output}
 use Rattle.machine_run.specs.Steps.{answer_to, paused_by}
 use Rattle.flat_machine.specs.Asks.{asks}
 use Rattle.flat_machine.specs.Seen.{FlatSeen, between}

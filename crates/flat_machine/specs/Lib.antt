@@ -6,3 +6,4 @@ pub mod Paused
 pub mod Runs
 pub mod Rules
 pub mod Quiet
+pub mod Slots

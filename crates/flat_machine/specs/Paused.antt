@@ -1,5 +1,5 @@
 -- What contracts see of the fields of a flat machine.
-use Rattle.std.specs.Prelude.{◌≡◌, ℕ, ◌≤◌, List, [], Option, Some, None}
+use Rattle.std.specs.Prelude.{◌≡◌, ℕ, ◌≤◌, List, []}
 use Rattle.machine_spec.specs.declared.Ending.TheVariants.{Running}
 use Rattle.flat_spec.specs.Machine.{Machine, register}
 use Rattle.machine_run.specs.declared.pause.Pause.{Pause}

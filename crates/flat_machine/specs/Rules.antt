@@ -1,5 +1,5 @@
 -- The flat machine's rules, for runs.
-use Rattle.std.specs.Prelude.{ℕ, List, false}
+use Rattle.std.specs.Prelude.{false}
 use Rattle.flat_spec.specs.Stores.{put_bytes}
 use Rattle.flat_spec.specs.Machine.{Machine, register}
 use Rattle.flat_spec.specs.Calls.{Turn}

@@ -1,5 +1,5 @@
 -- How a run of the flat machine ends, and what stands after it.
-use Rattle.std.specs.Prelude.{◌≡◌, ◌⊎◌, ℕ, ◌+◌, ◌-◌, ◌<◌, ◌≤◌, List, [], ◌++◌, Option, Some, None, IsSome, length}
+use Rattle.std.specs.Prelude.{◌≡◌, ◌⊎◌, ℕ, ◌+◌, ◌<◌, ◌≤◌, List, [], ◌++◌, Option, Some, None, IsSome, length}
 use Rattle.machine_spec.specs.declared.Ending.{Ending}
 use Rattle.machine_spec.specs.declared.Ending.TheVariants.{Running, Exit, Illegal as IllegalAt, Fault as FaultAt}
 use Rattle.flat_spec.specs.Machine.{Machine, register}

@@ -7,19 +7,17 @@ ghost use Rattle.flat_machine.specs.Rules.{flat_rules};
 ghost use Rattle.flat_machine.specs.Seen.{begun};
 
 use crate::quiet::take_turns;
+use crate::registers::Registers;
 use flat_mem::FlatMem;
 use machine_spec::{Ending, FaultKind};
 use rv_isa::Width;
 use std::marker::Model;
 
-/// The first value of sp (x2): all other registers are 0 at the start.
-const STACK_POINTER: u32 = 0x7FFF_FF00;
-
-/// The memory, the registers, the pc and the ending. The slot of x0 may hold anything: x0 reads 0.
+/// The memory, the registers, the pc and the ending.
 #[derive(Debug, Drop)]
 pub struct Hart {
     mem: FlatMem,
-    registers: [u32; 32],
+    registers: Registers,
     pc: u32,
     ending: Ending,
 }
@@ -42,11 +40,9 @@ impl Hart {
     pub fn new(mem: FlatMem, entry: u32) -> Hart
         ensures { result ≡ begun mem entry }
     {
-        let mut registers = [0; 32];
-        registers[2] = STACK_POINTER;
         Hart {
             mem,
-            registers,
+            registers: Registers::at_start(),
             pc: entry,
             ending: Ending::Running,
         }
@@ -68,11 +64,7 @@ impl Hart {
         requires { r < 32 }
         ensures { result ≡ register self.now r }
     {
-        if r == 0 {
-            0
-        } else {
-            self.registers[r as usize]
-        }
+        self.registers.read(r)
     }
 
     pub fn memory(&self) -> &FlatMem
@@ -85,7 +77,7 @@ impl Hart {
         requires { rd < 32 }
         ensures { self.new ≡ gives rd value self.old }
     {
-        self.registers[rd as usize] = value;
+        self.registers.write(rd, value);
         self.pc = self.pc.wrapping_add(4);
     }
 
@@ -122,7 +114,7 @@ impl Hart {
         ensures { self.new ≡ jumps rd target self.old }
     {
         if target % 4 == 0 {
-            self.registers[rd as usize] = self.pc.wrapping_add(4);
+            self.registers.write(rd, self.pc.wrapping_add(4));
             self.pc = target;
         } else {
             self.faults(FaultKind::F3);

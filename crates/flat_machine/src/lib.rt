@@ -7,6 +7,7 @@ mod calling;
 mod hart;
 mod machine;
 mod quiet;
+mod registers;
 mod running;
 
 pub use machine::{Flat, start};

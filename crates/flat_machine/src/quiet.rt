@@ -10,17 +10,18 @@ ghost use Rattle.machine_run.specs.Machines.{GoesQuietly};
 ghost use Rattle.flat_machine.specs.Quiet.{running_at, Acts, Goes, Takes};
 ghost use Rattle.flat_machine.specs.Rules.{flat_rules};
 
+use crate::registers::Registers;
 use flat_mem::FlatMem;
 use rv_isa::{Cond, Instr, Op, compute, holds};
 
 /// Takes at most so many turns from the address `at` on, and answers how many. It stops before a turn that
 /// reads, writes or ends.
-pub fn take_turns(memory: &mut FlatMem, words: &mut [u32; 32], at: &mut u32, most: u32) -> u32
+pub fn take_turns(memory: &mut FlatMem, words: &mut Registers, at: &mut u32, most: u32) -> u32
     ensures within { result ≤ most }
     ensures turns { GoesQuietly flat_rules result
         (running_at memory.old words.old at.old) (running_at memory.new words.new at.new) }
 {
-    let mut registers = *words;
+    let mut registers = words.copied();
     let mut pc = *at;
     let mut taken = 0;
     while taken < most {
@@ -37,7 +38,7 @@ pub fn take_turns(memory: &mut FlatMem, words: &mut [u32; 32], at: &mut u32, mos
 
 /// One turn at `pc`: the address of the next one, or none where it isn't taken.
 #[inline(always)]
-fn take_turn(memory: &mut FlatMem, registers: &mut [u32; 32], pc: u32) -> Option<u32>
+fn take_turn(memory: &mut FlatMem, registers: &mut Registers, pc: u32) -> Option<u32>
     ensures { Takes result (running_at memory.old registers.old pc) memory.new registers.new }
 {
     let i = memory.instruction(pc)?;
@@ -48,7 +49,7 @@ fn take_turn(memory: &mut FlatMem, registers: &mut [u32; 32], pc: u32) -> Option
 /// it is a system call or the run ends.
 #[inline(always)]
 #[tactic(auto, unfolding(flat_spec::specs::Turns::acts))]
-fn act(memory: &mut FlatMem, registers: &mut [u32; 32], pc: u32, i: Instr) -> Option<u32>
+fn act(memory: &mut FlatMem, registers: &mut Registers, pc: u32, i: Instr) -> Option<u32>
     requires { NamesRegisters i }
     ensures { Acts result i (running_at memory.old registers.old pc) memory.new registers.new }
 {
@@ -66,7 +67,7 @@ fn act(memory: &mut FlatMem, registers: &mut [u32; 32], pc: u32, i: Instr) -> Op
             rs2,
             imm,
         } => {
-            if is_held(cond, read(registers, rs1), read(registers, rs2)) {
+            if is_held(cond, registers.read(rs1), registers.read(rs2)) {
                 jump(registers, 0, pc.wrapping_add(imm), pc)
             } else {
                 Some(pc.wrapping_add(4))
@@ -88,18 +89,18 @@ fn act(memory: &mut FlatMem, registers: &mut [u32; 32], pc: u32, i: Instr) -> Op
             imm,
         } => {
             let addr = address(registers, rs1, imm);
-            if memory.store_number(width, addr, read(registers, rs2)) {
+            if memory.store_number(width, addr, registers.read(rs2)) {
                 Some(pc.wrapping_add(4))
             } else {
                 None
             }
         }
         Instr::OpImm { op, rd, rs1, imm } => {
-            let value = computed(op, read(registers, rs1), imm);
+            let value = computed(op, registers.read(rs1), imm);
             Some(give(registers, rd, value, pc))
         }
         Instr::Reg { op, rd, rs1, rs2 } => {
-            let value = computed(op, read(registers, rs1), read(registers, rs2));
+            let value = computed(op, registers.read(rs1), registers.read(rs2));
             Some(give(registers, rd, value, pc))
         }
         Instr::Fence { .. } => Some(pc.wrapping_add(4)),
@@ -107,45 +108,36 @@ fn act(memory: &mut FlatMem, registers: &mut [u32; 32], pc: u32, i: Instr) -> Op
     }
 }
 
-/// What a register reads.
-#[inline(always)]
-fn read(registers: &[u32; 32], r: u8) -> u32
-    requires { r < 32 }
-    ensures { result ≡ word_read registers.now r }
-{
-    if r == 0 { 0 } else { registers[r as usize] }
-}
-
 /// The address at a distance from that in a register.
 #[inline(always)]
-fn address(registers: &[u32; 32], rs1: u8, imm: u32) -> u32
+fn address(registers: &Registers, rs1: u8, imm: u32) -> u32
     requires { rs1 < 32 }
     ensures { result ≡ plus (word_read registers.now rs1) imm }
 {
-    read(registers, rs1).wrapping_add(imm)
+    registers.read(rs1).wrapping_add(imm)
 }
 
 /// Puts a word into a register, and gives the address of the next instruction.
 #[inline(always)]
-fn give(registers: &mut [u32; 32], rd: u8, value: u32, pc: u32) -> u32
+fn give(registers: &mut Registers, rd: u8, value: u32, pc: u32) -> u32
     requires { rd < 32 }
     ensures next { result ≡ behind pc }
     ensures registers { registers.new ≡ slice_set registers.old rd value }
 {
-    registers[rd as usize] = value;
+    registers.write(rd, value);
     pc.wrapping_add(4)
 }
 
 /// Puts the address behind the instruction into a register, and gives the target; none, and nothing
 /// changes, where the target isn't aligned.
 #[inline(always)]
-fn jump(registers: &mut [u32; 32], rd: u8, target: u32, pc: u32) -> Option<u32>
+fn jump(registers: &mut Registers, rd: u8, target: u32, pc: u32) -> Option<u32>
     requires { rd < 32 }
     ensures { (memory : List Range) → Goes result (jumps rd target (running_at memory registers.old pc))
         (running_at memory registers.old pc) memory registers.new }
 {
     if target % 4 == 0 {
-        registers[rd as usize] = pc.wrapping_add(4);
+        registers.write(rd, pc.wrapping_add(4));
         Some(target)
     } else {
         None

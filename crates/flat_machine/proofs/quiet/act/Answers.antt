@@ -1,4 +1,4 @@
-use Rattle.std.proofs.Common.{◌∙◌, sym, ap}
+use Rattle.std.proofs.Common.{◌∙◌, sym}
 use Rattle.flat_machine.proofs.QuietTurns.{acts_jal, acts_jalr, acts_branch}
 use Rattle.flat_machine.proofs.quiet.act.Goals as goal
 

@@ -1,9 +1,10 @@
-use Rattle.std.proofs.Common.{refl, arith}
-use Rattle.flat_machine.proofs.QuietTurns.{one_more, no_more}
+use Rattle.std.proofs.Common.{ap, arith}
+use Rattle.flat_machine.proofs.QuietTurns.{one_more}
+use Rattle.flat_machine.specs.Quiet.{running_at}
 use Rattle.flat_machine.proofs.quiet.take_turns.Goals as goal
 
 pub loop-taken-init : goal.loop-taken-init
-loop-taken-init c = record { within = omega arith; turns = refl }
+loop-taken-init c = record { within = omega arith; turns = ap (λ words. running_at c.args.memory.now words c.args.at.now) c.copied-registers.ensures }
 
 pub loop-taken-preserved : goal.loop-taken-preserved
 loop-taken-preserved c = record {
