@@ -195,7 +195,8 @@ at_words file plan new g name s m input output ground h run there even =
     let second : fetched m.memory (e + 4) ≡ Some (encoded (Jalr 0 5 lower)) =
     entry_word file plan new s m name e 1 (encoded (Jalr 0 5 lower)) ground g h there (g.entry name e there).1 refl in
     let formed : (upper < 2 ^ 32) × (upper % 2 ^ 12 ≡ 0) = ground.laws.upper (minus to e) far in
-    let goes : plus (plus e upper) lower ≡ to = ground.laws.there e to (omega (arith, low, top)) (omega (arith, high)) in
+    let goes : plus (plus e upper) lower ≡ to =
+    ground.laws.there e to (omega (arith, low, top)) (omega (arith, high)) in
     let half : to / 2 * 2 ≡ to = (let even_to : to % 4 ≡ 0 = is.2 in omega (arith, even_to)) in
     let machine : Machine = after_entry upper to m in
     let others : (k : ℕ) → k ≢ 5 → register machine k ≡ register m k =

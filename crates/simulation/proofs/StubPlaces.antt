@@ -110,7 +110,8 @@ stub_back file plan new places held from bits back k input output g h run pc lon
     } in
     let to : line.site.back ≡ back = line.back in
     let goes : GoesBack line.line.bit line.site.back from input output =
-    g.laws.stub_returns at line.line.bit line.site.target line.site.back (line_bit file plan new k line.line g line.there)
+    g.laws.stub_returns at line.line.bit line.site.target line.site.back
+    (line_bit file plan new k line.line g line.there)
     (rw to is.0) (rw to is.1) from input output here in
     rw (e, line.there)
     (subst (λ b. Reaches 6 from input output b (bit_and bits (2 ^ 32 - 1 - 2 ^ line.line.bit))) to
