@@ -1,5 +1,5 @@
 -- What the checks keep of an accepted file.
-use Rattle.std.proofs.Common.{◌≡◌, ℕ, ◌+◌, ◌-◌, ◌%◌, ◌<◌, ◌≤◌, ◌==◌, ◌&&◌, not, Bool, true, false, List, [], ◌∷◌}
+use Rattle.std.proofs.Common.{◌≡◌, ℕ, ◌+◌, ◌-◌, ◌%◌, ◌≤◌, ◌==◌, ◌&&◌, not, Bool, true, false, List, [], ◌∷◌}
 use Rattle.std.proofs.Common.{get_or, length, nat_eq, nat_le, nat_lt, refl, sym, subst, arith, Option, Some, None}
 use Rattle.std.proofs.Common.{is_some, option_map, if◌then◌else◌}
 use Rattle.std.specs.List.{All, find, list_any}

@@ -1,21 +1,20 @@
 -- A plan without a fault fits, and one that fits has no fault.
 use Rattle.std.proofs.Common.{◌≡◌, ◌≢◌, ℕ, zero, suc, ◌+◌, ◌/◌, ◌^◌, ◌<◌, ◌≤◌, ◌==◌, ◌&&◌, ◌||◌, not, Bool, true, false}
-use Rattle.std.proofs.Common.{List, [], ◌∷◌, ◌++◌, get_or, length, map, nat_le, nat_lt, eqb, bit_and, refl, sym, ap}
+use Rattle.std.proofs.Common.{List, [], ◌∷◌, get_or, length, map, nat_le, nat_lt, eqb, bit_and, refl, sym, ap}
 use Rattle.std.proofs.Common.{◌∙◌, inl, inr, arith, Option, Some, None, is_some, option_map, Result, Ok, Err, OnOk}
-use Rattle.std.proofs.Common.{OnErr, IsBitSet}
+use Rattle.std.proofs.Common.{OnErr, IsBitSet, subst, take}
 use Rattle.std.specs.List.{All, AllPairs, Any, list_any, slice_get}
 use Rattle.std.proofs.Math.Nat.{div-eq_of_lt}
 use Rattle.std.proofs.Math.Pow.{pow_mono}
 use Rattle.std.proofs.lemmas.Bool.{cases_lt}
 use Rattle.std.proofs.lemmas.Bool.Decides.{Decides-eqb, nat_tests}
-use Rattle.std.proofs.lemmas.List.{length-map}
-use Rattle.std.proofs.lemmas.List.Elements.{All-cons, All-head, All-map, All-nil, All-push, All-tail}
+use Rattle.std.proofs.lemmas.List.{get_or_default, get_or-take, length-map, length-take-le}
+use Rattle.std.proofs.lemmas.List.Elements.{All-cons, All-head, All-map, All-nil, All-tail}
 use Rattle.std.proofs.lemmas.List.Folds.{Any-from_list_any, list_any-from_Any, list_any_none}
 use Rattle.std.proofs.lemmas.List.Kept.{AllPairs-cons}
 use Rattle.std.proofs.lemmas.Map.Made.{IsDistinct-from_AllPairs}
 use Rattle.std.proofs.lemmas.Map.Steps.{length-le_from_distinct_below}
 use Rattle.std.proofs.lemmas.Nat.{bit_set_by_shift}
-use Rattle.first_check.specs.First.{first_below}
 use Rattle.plan_core.specs.declared.types.Plan.{Plan}
 use Rattle.plan_core.specs.declared.types.PlanLine.{PlanLine}
 use Rattle.plan_core.specs.declared.types.Row.{Row}
@@ -24,13 +23,14 @@ use Rattle.site_spec.specs.declared.Site.{Site}
 use Rattle.site_spec.specs.Places.{reaches, stub_at, text_at}
 use Rattle.site_spec.specs.Plans.{Fits, IsInReach}
 use Rattle.site_spec.specs.Sites.{site_at}
-use Rattle.first_check.specs.First.{◌or_else◌, when}
+use Rattle.first_check.specs.First.{first_below, first_from, first_item, when}
+use Rattle.first_check.proofs.Items.{item_none, item_passes}
 use Rattle.first_check.specs.Answers.{Says}
 use Rattle.exec_image.specs.declared.plan_fault.PlanFault.{PlanFault}
 use Rattle.exec_image.specs.declared.plan_fault.PlanFault.TheVariants.{PlanSite, PlanBit, PlanRow, AreaTooLarge}
 use Rattle.exec_image.specs.declared.plan_fault.PlanFault.TheVariants.{SiteOutOfReach}
-use Rattle.exec_image.specs.PlanFaults.{area_too_large, bad_row, bad_row_from, is_far, is_strange_bit, no_bit}
-use Rattle.exec_image.specs.PlanFaults.{no_bit_from, no_site, no_site_from, out_of_reach, out_of_reach_from, plan_fault}
+use Rattle.exec_image.specs.PlanFaults.{area_too_large, bad_row, is_far, is_strange_bit, mask_fault, no_bit}
+use Rattle.exec_image.specs.PlanFaults.{no_site, out_of_reach, plan_fault, reach_fault, row_fault}
 use Rattle.exec_image.specs.PlanFaults.{strange_mask, strange_masks}
 use Rattle.exec_image.proofs.Finding.{NoneBelow, pairs_head, pairs_tail}
 use Rattle.exec_image.proofs.Passed.{both_false, none_both, not_when}
@@ -43,96 +43,63 @@ none_of_any p (x ∷ xs) h =
     let (a, b) = both_false (p x) (list_any p xs) h in
     All-cons (λ x. p x ≡ false) x xs a (none_of_any p xs b)
 
--- the lines from first to last, each tried for itself and against those before
-abbrev scan : (PlanLine → Bool) → (PlanLine → ℕ) → (PlanLine → PlanFault) → List PlanLine → List PlanLine
+-- a line that is bad for itself, or has the key of an earlier line
+abbrev line_fault : (PlanLine → Bool) → (PlanLine → ℕ) → (PlanLine → PlanFault) → List PlanLine → ℕ → PlanLine
     → Option PlanFault
-scan bad key why before [] = None
-scan bad key why before (l ∷ ls) =
-    when (bad l || list_any (λ m. key m == key l) before) (why l) or_else scan bad key why (before ++ l ∷ []) ls
+line_fault bad key why lines i l = when (bad l || list_any (λ m. key m == key l) (take i lines)) (why l)
 
-site_scan : (file : List ℕ) (before ls : List PlanLine)
-    → no_site_from file before ls ≡ scan (λ l. not (is_some (site_at file l.addr))) (λ l. l.addr) (λ l. PlanSite l.addr)
-    before ls
-site_scan file before [] = refl
-site_scan file before (l ∷ ls) = rw (site_scan file (before ++ l ∷ []) ls) refl
-
-bit_scan : (before ls : List PlanLine)
-    → no_bit_from before ls ≡ scan (λ l. nat_le 32 l.bit) (λ l. l.bit) (λ l. PlanBit l.bit) before ls
-bit_scan before [] = refl
-bit_scan before (l ∷ ls) = rw (bit_scan (before ++ l ∷ []) ls) refl
-
-record IsScanned (bad : PlanLine → Bool) (key : PlanLine → ℕ) (before ls : List PlanLine) : Type 0 where
-  good : All (λ l. bad l ≡ false) ls
-  apart : AllPairs (λ l m. key l ≢ key m) ls
-  fresh : All (λ l. All (λ m. key m ≢ key l) before) ls
+record IsScanned (bad : PlanLine → Bool) (key : PlanLine → ℕ) (lines : List PlanLine) : Type 0 where
+  good : All (λ l. bad l ≡ false) lines
+  apart : AllPairs (λ l m. key l ≢ key m) lines
 
 differ : (x y : ℕ) → (x == y) ≡ false → x ≢ y
 differ x y h = λ e. grind (arith, nat_tests)
 
-last_of : (key : PlanLine → ℕ) (n : ℕ) (xs : List PlanLine) (x : PlanLine) → All (λ m. key m ≢ n) (xs ++ x ∷ [])
-    → key x ≢ n
-last_of key n [] x h = All-head (λ m. key m ≢ n) x [] h
-last_of key n (y ∷ ys) x h = last_of key n ys x (All-tail (λ m. key m ≢ n) y (ys ++ x ∷ []) h)
-
-front_of : (key : PlanLine → ℕ) (n : ℕ) (xs : List PlanLine) (x : PlanLine) → All (λ m. key m ≢ n) (xs ++ x ∷ [])
-    → All (λ m. key m ≢ n) xs
-front_of key n [] x h = All-nil (λ m. key m ≢ n)
-front_of key n (y ∷ ys) x h =
-    All-cons (λ m. key m ≢ n) y ys (All-head (λ m. key m ≢ n) y (ys ++ x ∷ []) h)
-    (front_of key n ys x (All-tail (λ m. key m ≢ n) y (ys ++ x ∷ []) h))
-
-scanned : (bad : PlanLine → Bool) (key : PlanLine → ℕ) (why : PlanLine → PlanFault) (before ls : List PlanLine)
-    → scan bad key why before ls ≡ None → IsScanned bad key before ls
-scanned bad key why before [] h =
-    record {
-      good = All-nil (λ l. bad l ≡ false);
-      apart = λ i j d l m. absurd (omega arith);
-      fresh = All-nil (λ l. All (λ m. key m ≢ key l) before);
-    }
-scanned bad key why before (l ∷ ls) h =
-    let (a, b) = none_both (when (bad l || list_any (λ m. key m == key l) before) (why l))
-    (scan bad key why (before ++ l ∷ []) ls) h in
-    let (c, d) = both_false (bad l) (list_any (λ m. key m == key l) before)
-    (not_when (bad l || list_any (λ m. key m == key l) before) (why l) a) in
-    let s : IsScanned bad key (before ++ l ∷ []) ls = scanned bad key why (before ++ l ∷ []) ls b in
-    let f : All (λ m. key m ≢ key l) before =
-    λ k e i. differ (key (get_or before k e)) (key l) (none_of_any (λ m. key m == key l) before d k e i) in
-    record {
-      good = All-cons (λ l. bad l ≡ false) l ls c s.good;
-      apart = AllPairs-cons (λ l m. key l ≢ key m) l ls
-          (λ k e i. last_of key (key (get_or ls k e)) before l (s.fresh k e i)) s.apart;
-      fresh = All-cons (λ l. All (λ m. key m ≢ key l) before) l ls f
-          (λ k e i. front_of key (key (get_or ls k e)) before l (s.fresh k e i));
-    }
-
 same : (x y : ℕ) → x ≢ y → (x == y) ≡ false
 same x y h = grind (arith, nat_tests)
 
-unscanned : (bad : PlanLine → Bool) (key : PlanLine → ℕ) (why : PlanLine → PlanFault) (before ls : List PlanLine)
-    → IsScanned bad key before ls → scan bad key why before ls ≡ None
-unscanned bad key why before [] h = refl
-unscanned bad key why before (l ∷ ls) h =
-    let g : bad l ≡ false = All-head (λ l. bad l ≡ false) l ls h.good in
-    let f : All (λ m. key m ≢ key l) before = All-head (λ l. All (λ m. key m ≢ key l) before) l ls h.fresh in
-    let e : list_any (λ m. key m == key l) before ≡ false =
-    list_any_none (λ m. key m == key l) before (λ k d i. same (key (get_or before k d)) (key l) (f k d i)) in
-    let r : IsScanned bad key (before ++ l ∷ []) ls =
-    record {
-      good = All-tail (λ l. bad l ≡ false) l ls h.good;
-      apart = pairs_tail (λ l m. key l ≢ key m) l ls h.apart;
-      fresh = λ k d i.
-          All-push (λ m. key m ≢ key (get_or ls k d)) before l
-          (All-tail (λ l. All (λ m. key m ≢ key l) before) l ls h.fresh k d i)
-          (pairs_head (λ l m. key l ≢ key m) l ls h.apart k d i);
-    } in
-    rw (g, e) (unscanned bad key why (before ++ l ∷ []) ls r)
+scanned : (bad : PlanLine → Bool) (key : PlanLine → ℕ) (why : PlanLine → PlanFault) (lines : List PlanLine)
+    → first_item (line_fault bad key why lines) lines ≡ None → IsScanned bad key lines
+scanned bad key why lines h = record { good = λ k d low. (parts k d low).0; apart = apart }
+  where
+    parts : (k : ℕ) (d : PlanLine) → k < length lines → (bad (get_or lines k d) ≡ false)
+        × (list_any (λ m. key m == key (get_or lines k d)) (take k lines) ≡ false)
+    parts k d low =
+        both_false (bad (get_or lines k d)) (list_any (λ m. key m == key (get_or lines k d)) (take k lines))
+        (not_when (bad (get_or lines k d) || list_any (λ m. key m == key (get_or lines k d)) (take k lines))
+        (why (get_or lines k d)) (item_passes (line_fault bad key why lines) lines h k d low))
+
+    apart : AllPairs (λ l m. key l ≢ key m) lines
+    apart i j d before low =
+        let long : length (take j lines) ≡ j = length-take-le j lines (omega (arith, low)) in
+        let other : (key (get_or (take j lines) i d) == key (get_or lines j d)) ≡ false =
+        none_of_any (λ m. key m == key (get_or lines j d)) (take j lines) (parts j d low).1 i d
+        (omega (arith, long, before)) in
+        subst (λ l. key l ≢ key (get_or lines j d)) (get_or-take j lines i d before)
+        (differ (key (get_or (take j lines) i d)) (key (get_or lines j d)) other)
+
+unscanned : (bad : PlanLine → Bool) (key : PlanLine → ℕ) (why : PlanLine → PlanFault) (lines : List PlanLine)
+    → IsScanned bad key lines → first_item (line_fault bad key why lines) lines ≡ None
+unscanned bad key why lines h = item_none (line_fault bad key why lines) lines (λ k d low.
+    let good : bad (get_or lines k d) ≡ false = h.good k d low in
+    let long : length (take k lines) ≡ k = length-take-le k lines (omega (arith, low)) in
+    let fresh : list_any (λ m. key m == key (get_or lines k d)) (take k lines) ≡ false =
+    list_any_none (λ m. key m == key (get_or lines k d)) (take k lines) (λ i e inside.
+    let before : i < k = omega (arith, long, inside) in
+    same (key (get_or (take k lines) i e)) (key (get_or lines k d))
+    (subst (λ l. key l ≢ key (get_or lines k d)) (sym (get_or-take k lines i e before)) (apart i k e d before low))) in
+    rw (good, fresh) refl)
+  where
+    apart : (i j : ℕ) (e d : PlanLine) → i < j → j < length lines → key (get_or lines i e) ≢ key (get_or lines j d)
+    apart i j e d before low =
+        subst (λ l. key (get_or lines i e) ≢ key l) (get_or_default lines j e d low) (h.apart i j e before low)
 
 -- the rows
-few_from : (i : ℕ) (rs : List Row) → i ≤ 64 → bad_row_from i rs ≡ None
+few_from : (i : ℕ) (rs : List Row) → i ≤ 64 → first_from row_fault i rs ≡ None
     → (i + length rs ≤ 64) × All (λ r. r.group < 16) rs
 few_from i [] l h = (omega arith, All-nil (λ r. r.group < 16))
 few_from i (r ∷ rs) l h =
-    let (a, b) = none_both (when (nat_le 16 r.group || (i == 64)) (PlanRow i)) (bad_row_from (i + 1) rs) h in
+    let (a, b) = none_both (when (nat_le 16 r.group || (i == 64)) (PlanRow i)) (first_from row_fault (i + 1) rs) h in
     let (c, d) = both_false (nat_le 16 r.group) (i == 64) (not_when (nat_le 16 r.group || (i == 64)) (PlanRow i) a) in
     let e : i < 64 = grind (arith, nat_tests) in
     let g : r.group < 16 = grind (arith, nat_tests) in
@@ -140,7 +107,7 @@ few_from i (r ∷ rs) l h =
     (omega (arith, m), All-cons (λ r. r.group < 16) r rs g n)
 
 rows_none : (i : ℕ) (rs : List Row) → i + length rs ≤ 64 → i ≤ 64 → All (λ r. r.group < 16) rs
-    → bad_row_from i rs ≡ None
+    → first_from row_fault i rs ≡ None
 rows_none i [] l u h = refl
 rows_none i (r ∷ rs) l u h =
     let g : r.group < 16 = All-head (λ r. r.group < 16) r rs h in
@@ -198,21 +165,21 @@ mask_none none_below lines mask h =
     decide n true e = rw e refl
     decide n false e = rw (e, has_line lines n (h n (differ (bit_and mask (2 ^ n)) 0 e))) refl
 
-masks_lines : NoneBelow → (lines : List PlanLine) (rows : List Row) → All (λ r. r.mask < 2 ^ 32) rows
-    → strange_masks lines rows ≡ None → All (λ row. HasLines lines row.mask) rows
-masks_lines none_below lines [] b h = All-nil (λ row. HasLines lines row.mask)
-masks_lines none_below lines (r ∷ rs) b h =
-    let (x, y) = none_both (strange_mask lines r.mask) (strange_masks lines rs) h in
+masks_lines : NoneBelow → (lines : List PlanLine) (i : ℕ) (rows : List Row) → All (λ r. r.mask < 2 ^ 32) rows
+    → first_from (mask_fault lines) i rows ≡ None → All (λ row. HasLines lines row.mask) rows
+masks_lines none_below lines i [] b h = All-nil (λ row. HasLines lines row.mask)
+masks_lines none_below lines i (r ∷ rs) b h =
+    let (x, y) = none_both (strange_mask lines r.mask) (first_from (mask_fault lines) (i + 1) rs) h in
     All-cons (λ row. HasLines lines row.mask) r rs
     (mask_lines none_below lines r.mask (All-head (λ r. r.mask < 2 ^ 32) r rs b) x)
-    (masks_lines none_below lines rs (All-tail (λ r. r.mask < 2 ^ 32) r rs b) y)
+    (masks_lines none_below lines (i + 1) rs (All-tail (λ r. r.mask < 2 ^ 32) r rs b) y)
 
-masks_none : NoneBelow → (lines : List PlanLine) (rows : List Row) → All (λ row. HasLines lines row.mask) rows
-    → strange_masks lines rows ≡ None
-masks_none none_below lines [] h = refl
-masks_none none_below lines (r ∷ rs) h =
+masks_none : NoneBelow → (lines : List PlanLine) (i : ℕ) (rows : List Row)
+    → All (λ row. HasLines lines row.mask) rows → first_from (mask_fault lines) i rows ≡ None
+masks_none none_below lines i [] h = refl
+masks_none none_below lines i (r ∷ rs) h =
     rw (mask_none none_below lines r.mask (All-head (λ row. HasLines lines row.mask) r rs h))
-    (masks_none none_below lines rs (All-tail (λ row. HasLines lines row.mask) r rs h))
+    (masks_none none_below lines (i + 1) rs (All-tail (λ row. HasLines lines row.mask) r rs h))
 
 -- the reach
 reach_of : (file : List ℕ) (l : PlanLine) (k : ℕ) → is_far file k (site_at file l.addr) ≡ false
@@ -228,17 +195,17 @@ reach_of file l k h s e p =
     known_reach false false x y = absurd (cc)
     known_reach true c x y = absurd (cc)
 
-reach_from : (file : List ℕ) (k : ℕ) (ls : List PlanLine) → out_of_reach_from file k ls ≡ None → (j : ℕ)
+reach_from : (file : List ℕ) (k : ℕ) (ls : List PlanLine) → first_from (reach_fault file) k ls ≡ None → (j : ℕ)
     → IsInReach file (slice_get ls j) (k + j)
 reach_from file k [] h j = tt
 reach_from file k (l ∷ ls) h zero =
     let (a, b) = none_both (when (is_far file k (site_at file l.addr)) (SiteOutOfReach l.addr))
-    (out_of_reach_from file (k + 1) ls) h in
+    (first_from (reach_fault file) (k + 1) ls) h in
     let z : k + 0 ≡ k = omega arith in
     rw z (reach_of file l k (not_when (is_far file k (site_at file l.addr)) (SiteOutOfReach l.addr) a))
 reach_from file k (l ∷ ls) h (suc j) =
     let (a, b) = none_both (when (is_far file k (site_at file l.addr)) (SiteOutOfReach l.addr))
-    (out_of_reach_from file (k + 1) ls) h in
+    (first_from (reach_fault file) (k + 1) ls) h in
     let z : k + suc j ≡ k + 1 + j = omega arith in
     rw z (reach_from file (k + 1) ls b j)
 
@@ -256,7 +223,7 @@ far_none file l k h = decide (site_at file l.addr) refl
             rw (p, (shape file l.addr s e).addr, r) refl
 
 reach_none : (file : List ℕ) (k : ℕ) (ls : List PlanLine) → ((j : ℕ) → IsInReach file (slice_get ls j) (k + j))
-    → out_of_reach_from file k ls ≡ None
+    → first_from (reach_fault file) k ls ≡ None
 reach_none file k [] h = refl
 reach_none file k (l ∷ ls) h =
     let z : k + 0 ≡ k = omega arith in
@@ -274,19 +241,17 @@ some_of false h = absurd (cc)
 
 pub fits_of : NoneBelow → (file : List ℕ) (plan : Plan) → All (λ r. r.mask < 2 ^ 32) plan.rows
     → plan_fault file plan ≡ None → Fits file plan
-unfolding no_site no_bit bad_row area_too_large out_of_reach
+unfolding no_site no_bit strange_masks bad_row area_too_large out_of_reach
 fits_of none_below file plan bound h =
     let (a, h1) = none_both (no_site file plan.sites) _ h in
     let (b, h2) = none_both (no_bit plan.sites) _ h1 in
     let (c, h3) = none_both (strange_masks plan.sites plan.rows) _ h2 in
     let (d, h4) = none_both (bad_row plan.rows) _ h3 in
     let (e, f) = none_both (area_too_large plan.area) (out_of_reach file plan.sites) h4 in
-    let s : IsScanned (λ l. not (is_some (site_at file l.addr))) (λ l. l.addr) [] plan.sites =
-    scanned (λ l. not (is_some (site_at file l.addr))) (λ l. l.addr) (λ l. PlanSite l.addr) [] plan.sites
-    (sym (site_scan file [] plan.sites) ∙ a) in
-    let t : IsScanned (λ l. nat_le 32 l.bit) (λ l. l.bit) [] plan.sites =
-    scanned (λ l. nat_le 32 l.bit) (λ l. l.bit) (λ l. PlanBit l.bit) [] plan.sites
-    (sym (bit_scan [] plan.sites) ∙ b) in
+    let s : IsScanned (λ l. not (is_some (site_at file l.addr))) (λ l. l.addr) plan.sites =
+    scanned (λ l. not (is_some (site_at file l.addr))) (λ l. l.addr) (λ l. PlanSite l.addr) plan.sites a in
+    let t : IsScanned (λ l. nat_le 32 l.bit) (λ l. l.bit) plan.sites =
+    scanned (λ l. nat_le 32 l.bit) (λ l. l.bit) (λ l. PlanBit l.bit) plan.sites b in
     let (few, groups) = few_from 0 plan.rows (omega arith) d in
     let (log, chunks, area) = area_parts true true plan.area.log_chunk plan.area.chunks (granules plan.area) 0
     (not_when (nat_lt 20 plan.area.log_chunk
@@ -296,7 +261,7 @@ fits_of none_below file plan bound h =
       once = s.apart;
       bits = λ k d l. low_bit (get_or plan.sites k d).bit (t.good k d l);
       own_bits = t.apart;
-      masks = masks_lines none_below plan.sites plan.rows bound c;
+      masks = masks_lines none_below plan.sites 0 plan.rows bound c;
       groups = groups;
       few_rows = omega (arith, few);
       log_chunk = log;
@@ -309,22 +274,19 @@ fits_of none_below file plan bound h =
     low_bit n h = grind (arith, nat_tests)
 
 pub fault_of : NoneBelow → (file : List ℕ) (plan : Plan) → Fits file plan → plan_fault file plan ≡ None
-unfolding no_site no_bit bad_row area_too_large out_of_reach
+unfolding no_site no_bit strange_masks bad_row area_too_large out_of_reach
 fault_of none_below file plan h =
     let a : no_site file plan.sites ≡ None =
-    site_scan file [] plan.sites ∙ unscanned (λ l. not (is_some (site_at file l.addr))) (λ l. l.addr)
-    (λ l. PlanSite l.addr) [] plan.sites (record {
+    unscanned (λ l. not (is_some (site_at file l.addr))) (λ l. l.addr) (λ l. PlanSite l.addr) plan.sites (record {
       good = λ k d l. let e : is_some (site_at file (get_or plan.sites k d).addr) ≡ true = h.sites k d l in rw e refl;
       apart = h.once;
-      fresh = λ k d l. All-nil (λ m. m.addr ≢ (get_or plan.sites k d).addr);
     }) in
     let b : no_bit plan.sites ≡ None =
-    bit_scan [] plan.sites ∙ unscanned (λ l. nat_le 32 l.bit) (λ l. l.bit) (λ l. PlanBit l.bit) [] plan.sites (record {
+    unscanned (λ l. nat_le 32 l.bit) (λ l. l.bit) (λ l. PlanBit l.bit) plan.sites (record {
       good = λ k d l. high_none (get_or plan.sites k d).bit (h.bits k d l);
       apart = h.own_bits;
-      fresh = λ k d l. All-nil (λ m. m.bit ≢ (get_or plan.sites k d).bit);
     }) in
-    let c : strange_masks plan.sites plan.rows ≡ None = masks_none none_below plan.sites plan.rows h.masks in
+    let c : strange_masks plan.sites plan.rows ≡ None = masks_none none_below plan.sites 0 plan.rows h.masks in
     let d : bad_row plan.rows ≡ None = rows_none 0 plan.rows (omega (arith, h.few_rows)) (omega arith) h.groups in
     let e : area_too_large plan.area ≡ None =
     ap (λ b. when b AreaTooLarge) (area_none plan.area.log_chunk plan.area.chunks (granules plan.area) h.log_chunk
@@ -357,8 +319,8 @@ below_bound xs q h i =
 pub few_lines : (lines : List PlanLine) → no_bit lines ≡ None → length lines ≤ 32
 unfolding no_bit
 few_lines lines h =
-    let t : IsScanned (λ l. nat_le 32 l.bit) (λ l. l.bit) [] lines =
-    scanned (λ l. nat_le 32 l.bit) (λ l. l.bit) (λ l. PlanBit l.bit) [] lines (sym (bit_scan [] lines) ∙ h) in
+    let t : IsScanned (λ l. nat_le 32 l.bit) (λ l. l.bit) lines =
+    scanned (λ l. nat_le 32 l.bit) (λ l. l.bit) (λ l. PlanBit l.bit) lines h in
     let n : length (map (λ l. l.bit) lines) ≡ length lines = length-map lines (λ l. l.bit) in
     let m : length (map (λ l. l.bit) lines) ≤ 32 =
     length-le_from_distinct_below (map (λ l. l.bit) lines) 32

@@ -1,7 +1,7 @@
 -- Why a file isn't accepted as an executable: the first check that it fails, with its item, and the
 -- lowest index or address.
-use Rattle.std.specs.Prelude.{◌≡◌, ℕ, ◌⊎◌, Bool, not, ◌&&◌, ◌||◌, List, [], ◌∷◌, ◌++◌, Option, Some, None, is_some}
-use Rattle.std.specs.Prelude.{option_map, position, nat_lt, Result, Ok, Err}
+use Rattle.std.specs.Prelude.{ℕ, Bool, not, ◌&&◌, ◌||◌, List, [], ◌∷◌, ◌++◌, Option, None, is_some}
+use Rattle.std.specs.Prelude.{option_map, position, nat_lt}
 use Rattle.std.specs.List.{list_any}
 use Rattle.elf_spec.specs.declared.HeapName.{HeapName}
 use Rattle.elf_spec.specs.declared.Section.{Section}
@@ -14,7 +14,7 @@ use Rattle.elf_read.specs.Refusals.{memory_size, refusal}
 use Rattle.first_check.specs.First.{◌or_else◌, when}
 use Rattle.reloc_table.specs.Refusals.{reloc_refusal}
 use Rattle.exec_image.specs.declared.refusals.FileRefusal.{FileRefusal}
-use Rattle.exec_image.specs.declared.refusals.FileRefusal.TheVariants.{Memory, Elf, Relocs, ExecNotWords, ExecOutside}
+use Rattle.exec_image.specs.declared.refusals.FileRefusal.TheVariants.{Elf, Relocs, ExecNotWords, ExecOutside}
 use Rattle.exec_image.specs.declared.refusals.FileRefusal.TheVariants.{EntryOut, HeapEntryTwice, HeapEntrySmall}
 use Rattle.exec_image.specs.declared.refusals.FileRefusal.TheVariants.{AlreadyRewritten, ImageTooLarge, TpUsed}
 use Rattle.exec_image.specs.declared.refusals.ImagePart.TheVariants.{Headers, Bytes, End}

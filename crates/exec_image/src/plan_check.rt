@@ -94,6 +94,7 @@ fn check_mask(lines: &[PlanLine], mask: u32) -> Result<(), PlanFault>
 }
 
 /// Checks that the masks have bits of lines alone.
+#[tactic(auto, unfolding(crate::specs::PlanFaults::strange_masks))]
 fn check_masks(lines: &[PlanLine], rows: &[Row]) -> Result<(), PlanFault>
     ensures exact { Says result (strange_masks lines.now rows.now) }
     ensures bound { OnOk result (All (λ r. r.mask < 2 ^ 32) rows.now) }

@@ -1,7 +1,9 @@
 -- The answer is among the lines that are left.
 use Rattle.std.proofs.Common.{◌≡◌, drop}
-use Rattle.exec_image.specs.PlanFaults.{out_of_reach_from}
+use Rattle.first_check.specs.First.{first_from, first_item}
+use Rattle.exec_image.specs.PlanFaults.{reach_fault}
 use Rattle.exec_image.proofs.plan_check.check_reach.Given as goal
 
 abbrev pub invariant-loop-k : goal.invariant-loop-k
-invariant-loop-k l = out_of_reach_from l.file l.k (drop l.k l.lines) ≡ out_of_reach_from l.file 0 l.lines
+invariant-loop-k l =
+    first_from (reach_fault l.file) l.k (drop l.k l.lines) ≡ first_item (reach_fault l.file) l.lines
