@@ -13,15 +13,15 @@ use Rattle.elf_spec.specs.declared.Section.{Section}
 use Rattle.elf_spec.specs.declared.Segment.{Segment}
 use Rattle.elf_spec.specs.Code.{code_place, code_word, holds_address, holds_word, is_executable}
 use Rattle.elf_spec.specs.Fields.{is_set, word_at}
-use Rattle.elf_spec.specs.Memory.{image_end, is_loaded}
+use Rattle.elf_spec.specs.Memory.{is_loaded}
 use Rattle.elf_spec.specs.Records.{sections_of, segments_of}
 use Rattle.sym_spec.specs.Plain.{is_code_byte}
 use Rattle.elf_write.specs.Places.{InFile, place_at}
 use Rattle.exec_image.specs.Accepted.{AcceptedFacts, IsCodeAt, IsWords}
 use Rattle.exec_image.specs.Checks.{uses_tp_at}
 use Rattle.new_file_laws.proofs.Finding.{found_passes, found_some}
-use Rattle.new_file_laws.proofs.Segments.{IsLoadedAt, IsLoadedBy, IsOneOf, all_of, any_of, below_image_end, found_one}
-use Rattle.new_file_laws.proofs.Segments.{in_segment, loaded_place, some_one}
+use Rattle.new_file_laws.proofs.Segments.{IsLoadedAt, IsLoadedBy, IsOneOf, all_of, any_of, found_one}
+use Rattle.new_file_laws.proofs.Segments.{loaded_place, some_one}
 
 -- where a code word is
 pub code_there : (file : List ℕ) (a w : ℕ) → code_word file a ≡ Some w

@@ -8,7 +8,7 @@ use Rattle.flat_spec.specs.Stores.{fetched}
 use Rattle.flat_spec.specs.Machine.{Machine}
 use Rattle.flat_spec.specs.Calls.{quiet}
 use Rattle.flat_spec.specs.Turns.{turn, executes}
-use Rattle.flat_spec.specs.Runs.{State, step}
+use Rattle.flat_spec.specs.Runs.{step}
 use Rattle.site_stubs.specs.StubRuns.{state_of}
 
 -- a running machine's turn is that of the fetched word's instruction

@@ -1,8 +1,5 @@
 -- The memory is laid out as the simulation asks.
-use Rattle.std.specs.Prelude.{ℕ, List}
-use Rattle.plan_core.specs.declared.types.Plan.{Plan}
 use Rattle.simulation.specs.Ground.{Ground}
-use Rattle.new_file_laws.specs.Behaviour.{KeepsBehaviour}
 use Rattle.new_file_laws.proofs.Ground.{ground, ground_with_heap}
 use Rattle.new_file_laws.proofs.laws.new_files_keep_behaviour.Goals as goal
 
