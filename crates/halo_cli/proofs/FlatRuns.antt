@@ -5,11 +5,13 @@ use Rattle.std.specs.declared.alloc.AllocError.{AllocError}
 use Rattle.halo_outside.specs.Seen.{Rose}
 use Rattle.machine_spec.specs.declared.Ending as machine_ending
 use Rattle.machine_spec.specs.declared.Ending.TheVariants as machine
-use Rattle.flat_spec.specs.Machine.{Machine, start}
+use Rattle.flat_spec.specs.Machine.{register, Machine, start}
 use Rattle.flat_spec.specs.Runs.{State, flat_run}
 use Rattle.machine_run.specs.declared.RunEnd.{RunEnd}
 use Rattle.machine_run.specs.declared.RunEnd.TheVariants as run_end
 use Rattle.machine_run.specs.Runs.{Writes}
+use Rattle.machine_run.specs.Machines.{Input}
+use Rattle.flat_machine.specs.Asks.{asks}
 use Rattle.flat_machine.specs.Seen.{FlatSeen, between}
 use Rattle.flat_machine.specs.Runs.{run_from, IsRunning, WroteLast, EndsAt, EndsAs, Leaves, Ran, Answers}
 use Rattle.halo_cli.specs.World.{Outside}
@@ -56,12 +58,20 @@ module _ (file : List ℕ) (bound : ℕ) (before now : Outside) (seen : FlatSeen
   answered run_end.WriteFault input taken (within, stops) = (within, stopped input taken stops)
 
   left : (end : RunEnd) (s : State) → Leaves end s seen now.input.told
-      → Left {E = AllocError} (Ok end) (flat_stand s) now
+      → Left {E = AllocError} (Ok end) (λ most. asks s.machine ≡ Input most) (flat_stand s) now
   left (run_end.Exited st n) s leaves = leaves.left
   left (run_end.Illegal at n) s leaves = leaves.left
   left (run_end.Fault kind at n) s leaves = leaves.left
   left run_end.Steps s leaves = leaves.left
-  left run_end.ReadFault s leaves = (leaves.bytes, leaves.rest, leaves.whole, leaves.left)
+  left run_end.ReadFault s leaves = record {
+    most = register s.machine 12;
+    at_read = leaves.at_read;
+    bytes = leaves.bytes;
+    rest = leaves.rest;
+    fewer = leaves.fewer;
+    whole = leaves.whole;
+    left = leaves.left;
+  }
   left run_end.WriteFault s leaves = leaves.left
 
   told : (end : RunEnd) (input : List ℕ)
@@ -70,8 +80,8 @@ module _ (file : List ℕ) (bound : ℕ) (before now : Outside) (seen : FlatSeen
   told end input ran = record {
     taken = ran.taken;
     answer = answered end input ran.taken ran.answer;
-    left = subst (λ s. Left {E = AllocError} (Ok end) (flat_stand s) now) (run_is file input ran.taken)
-        (left end (run_from (start file) input ran.taken) ran.leaves);
+    left = subst (λ s. Left {E = AllocError} (Ok end) (λ most. asks s.machine ≡ Input most) (flat_stand s) now)
+        (run_is file input ran.taken) (left end (run_from (start file) input ran.taken) ran.leaves);
     output = subst (λ (s : State). Writes end before.out now.out s.output) (run_is file input ran.taken) ran.output;
   }
 

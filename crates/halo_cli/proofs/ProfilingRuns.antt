@@ -7,6 +7,9 @@ use Rattle.machine_spec.specs.declared.Ending as machine_ending
 use Rattle.machine_spec.specs.declared.Ending.TheVariants as machine
 use Rattle.sym_spec.specs.SymRuns.{SymState, sym_run}
 use Rattle.sym_machine.specs.Runs.{EndsAt, IsRunning, run_from}
+use Rattle.machine_run.specs.Machines.{Input}
+use Rattle.sym_machine.specs.Asks.{asks}
+use Rattle.sym_machine.specs.Runs.{program_at}
 use Rattle.heap_trace.specs.declared.profiles.Profiled.{Profiled}
 use Rattle.heap_trace.specs.declared.profiles.ProfileEnd.{ProfileEnd}
 use Rattle.heap_trace.specs.declared.profiles.ProfileEnd.TheVariants as end
@@ -113,8 +116,17 @@ module _ (file : List ℕ) (area : Area) (distance bound : ℕ) (before now : Ou
       ran.taken,
       ran.ends.0,
       ends_so input ran.taken machine.Running ran.ends.1,
-      subst (λ (s : SymState). HasPart (symbol_stand s) now) (run_is file area input ran.taken)
-          (ran.leaves.bytes, ran.leaves.rest, ran.leaves.whole, ran.leaves.left),
+      subst (λ (s : SymState). HasPart
+          (λ most. asks (program_at (program_of file (plan_of_area area)) s) ≡ Input most) (symbol_stand s) now)
+          (run_is file area input ran.taken) (record {
+            most = ran.leaves.most;
+            at_read = ran.leaves.at_read;
+            bytes = ran.leaves.bytes;
+            rest = ran.leaves.rest;
+            fewer = ran.leaves.fewer;
+            whole = ran.leaves.whole;
+            left = ran.leaves.left;
+          }),
     )),
   )
   stopped end.Memory told within rose = λ input is.

@@ -42,22 +42,22 @@ Answered run input (Ok run_end.WriteFault) bound taken = (taken ≤ bound)
 Answered run input (Err lack) bound taken =
     (taken < bound) × (ending_at run input taken ≡ machine.Running) × run.may_lack input taken
 
--- what the source has left
-abbrev pub Left : {E : Type 0} → Result RunEnd E → Stand → Outside → Type 0
-Left (Ok run_end.ReadFault) stand now = HasPart stand now
-Left (Ok (run_end.Exited status n)) stand now = HasRest stand now
-Left (Ok (run_end.Illegal at n)) stand now = HasRest stand now
-Left (Ok (run_end.Fault kind at n)) stand now = HasRest stand now
-Left (Ok run_end.Steps) stand now = HasRest stand now
-Left (Ok run_end.WriteFault) stand now = HasRest stand now
-Left (Err lack) stand now = HasRest stand now
+-- what the source has left, where the next turn reads so
+abbrev pub Left : {E : Type 0} → Result RunEnd E → (reads : ℕ → Type 0) → Stand → Outside → Type 0
+Left (Ok run_end.ReadFault) reads stand now = HasPart reads stand now
+Left (Ok (run_end.Exited status n)) reads stand now = HasRest stand now
+Left (Ok (run_end.Illegal at n)) reads stand now = HasRest stand now
+Left (Ok (run_end.Fault kind at n)) reads stand now = HasRest stand now
+Left (Ok run_end.Steps) reads stand now = HasRest stand now
+Left (Ok run_end.WriteFault) reads stand now = HasRest stand now
+Left (Err lack) reads stand now = HasRest stand now
 
 -- what an answer says of a run on a told input
 pub record Told {E : Type 0} (run : Run) (end : Result RunEnd E) (bound : ℕ) (before now : Outside) (input : List ℕ) :
     Type 0 where
   pub taken : ℕ
   pub answer : Answered run input end bound taken
-  pub left : Left end (run.after input taken) now
+  pub left : Left end (run.reads input taken) (run.after input taken) now
   pub output : WritesAll end before.out now.out (run.after input taken).output
 
 -- and what it says whatever the input

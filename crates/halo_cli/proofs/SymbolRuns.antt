@@ -5,7 +5,7 @@ use Rattle.halo_outside.specs.Seen.{Rose}
 use Rattle.plan_core.specs.declared.types.Plan.{Plan}
 use Rattle.machine_spec.specs.declared.Ending as machine_ending
 use Rattle.machine_spec.specs.declared.Ending.TheVariants as machine
-use Rattle.machine_run.specs.Machines.{Seen, Output}
+use Rattle.machine_run.specs.Machines.{Seen, Input, Output}
 use Rattle.machine_run.specs.Runs.{WritesAll}
 use Rattle.sym_spec.specs.SymMachine.{start}
 use Rattle.sym_spec.specs.SymNotes.{note, empty_note}
@@ -81,12 +81,20 @@ module _ (file : List ℕ) (plan : Plan) (bound : ℕ) (before now : Outside) (s
       (less, ends_so file plan input taken machine.Running runs, grants input taken granted)
 
   left : (end : SymEnd) (s : SymState) → Leaves end (program file plan) s seen now.input.told
-      → Left (run_end end) (symbol_stand s) now
+      → Left (run_end end) (λ most. asks (program_at (program file plan) s) ≡ Input most) (symbol_stand s) now
   left (sym_end.Exited st n) s leaves = leaves.left
   left (sym_end.Illegal at n) s leaves = leaves.left
   left (sym_end.Fault kind at n) s leaves = leaves.left
   left sym_end.Steps s leaves = leaves.left
-  left sym_end.ReadFault s leaves = (leaves.bytes, leaves.rest, leaves.whole, leaves.left)
+  left sym_end.ReadFault s leaves = record {
+    most = leaves.most;
+    at_read = leaves.at_read;
+    bytes = leaves.bytes;
+    rest = leaves.rest;
+    fewer = leaves.fewer;
+    whole = leaves.whole;
+    left = leaves.left;
+  }
   left sym_end.WriteFault s leaves = leaves.left
   left sym_end.Memory s leaves = leaves.left
 
@@ -96,8 +104,8 @@ module _ (file : List ℕ) (plan : Plan) (bound : ℕ) (before now : Outside) (s
   told end input ran = record {
     taken = ran.taken;
     answer = answered end input ran.taken ran.answer;
-    left = subst (λ s. Left (run_end end) (symbol_stand s) now) (run_is file plan input ran.taken)
-        (left end (run_from (program file plan) input ran.taken) ran.leaves);
+    left = subst (λ s. Left (run_end end) (λ most. asks (program_at (program file plan) s) ≡ Input most)
+        (symbol_stand s) now) (run_is file plan input ran.taken) (left end (run_from (program file plan) input ran.taken) ran.leaves);
     output = subst (λ (s : SymState). WritesAll (run_end end) before.out now.out s.output)
         (run_is file plan input ran.taken) ran.output;
   }

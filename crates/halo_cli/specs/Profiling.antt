@@ -69,10 +69,11 @@ abbrev pub LeftSome : Run → ℕ → Outside → Outside → Type 0
 LeftSome run bound before now = (given : List ℕ) → before.input.told ≡ Some given
     → (n : ℕ) × (n ≤ bound) × HasRest (run.after given n) now
 
--- in a read behind some of its first turns, of which the source had given some bytes
+-- in a read behind some of its first turns
 abbrev pub LeftPart : Run → ℕ → Outside → Outside → Type 0
 LeftPart run bound before now = (given : List ℕ) → before.input.told ≡ Some given
-    → (n : ℕ) × (n < bound) × (ending_at run given n ≡ machine.Running) × HasPart (run.after given n) now
+    → (n : ℕ) × (n < bound) × (ending_at run given n ≡ machine.Running)
+    × HasPart (run.reads given n) (run.after given n) now
 
 -- a run of at most `bound` turns gave no profile, and the command ends so
 abbrev pub RunStopped : Run → ℕ → Outside → Outside → Ending → Type 0

@@ -5,6 +5,8 @@ use Rattle.halo_outside.specs.Seen.{FilesSeen, Contents, contents_of, Rose}
 use Rattle.elf_read.specs.Refusals.{refusal}
 use Rattle.flat_spec.specs.Machine.{start}
 use Rattle.flat_spec.specs.Runs.{State, flat_run}
+use Rattle.machine_run.specs.Machines.{Input}
+use Rattle.flat_machine.specs.Asks.{asks}
 use Rattle.flat_machine.specs.Runs.{WroteLast}
 use Rattle.endings.specs.declared.endings.Ending.{Ending}
 use Rattle.endings.specs.declared.endings.Ending.TheVariants.{File}
@@ -24,6 +26,7 @@ abbrev pub run_of_file : List ℕ → Run
 run_of_file file = record {
   after = λ input n. flat_stand (flat_run file input n);
   wrote = λ input n. WroteLast (start file) input n;
+  reads = λ input n most. asks (flat_run file input n).machine ≡ Input most;
   may_lack = λ input n. ⊥;
   lacks = ⊥;
 }

@@ -1,6 +1,7 @@
 -- Runs of programs: how one ends by its turns, to which ending a told input brings it, and what it leaves of input and
 -- out.
-use Rattle.std.specs.Prelude.{◌≡◌, ◌≢◌, ℕ, ◌+◌, ◌<◌, ◌≤◌, ◌⊎◌, List, ◌++◌, Option, None, Some, unwrap_or, codes}
+use Rattle.std.specs.Prelude.{◌≡◌, ◌≢◌, ℕ, ◌+◌, ◌<◌, ◌≤◌, ◌⊎◌, List, ◌++◌, length, Option, None, Some, unwrap_or}
+use Rattle.std.specs.Prelude.{codes}
 use Rattle.halo_outside.specs.Seen.{Rose, Appends, AppendsPrefix}
 use Rattle.machine_spec.specs.declared.Ending as machine_ending
 use Rattle.machine_spec.specs.declared.Ending.TheVariants as machine
@@ -19,10 +20,12 @@ pub record Stand : Type 0 where
   pub output : List ℕ
 
 -- a program that is run: where its machine stands after so many turns on an input, whether the last of these turns was
--- a write, and whether the next one may want memory of the host; and whether any may
+-- a write, whether the next one is a read of at most so many bytes, and whether it may want memory of the host; and
+-- whether any may
 pub record Run : Type 1 where
   pub after : List ℕ → ℕ → Stand
   pub wrote : List ℕ → ℕ → Type 0
+  pub reads : List ℕ → ℕ → (most : ℕ) → Type 0
   pub may_lack : List ℕ → ℕ → Type 0
   pub lacks : Type 0
 
@@ -71,10 +74,15 @@ RunsTo (Some given) bound run ending = IsRunEnd run given bound ending
 abbrev pub HasRest : Stand → Outside → Type 0
 HasRest stand now = now.input.told ≡ Some stand.input
 
--- of which it gave some bytes
-abbrev pub HasPart : Stand → Outside → Type 0
-HasPart stand now =
-    (bytes : List ℕ) × (rest : List ℕ) × (stand.input ≡ bytes ++ rest) × (now.input.told ≡ Some rest)
+-- the next turn is a read, and of the rest of the input the source gave some bytes, fewer than that read takes
+pub record HasPart (reads : (most : ℕ) → Type 0) (stand : Stand) (now : Outside) : Type 0 where
+  pub most : ℕ
+  pub at_read : reads most
+  pub bytes : List ℕ
+  pub rest : List ℕ
+  pub fewer : length bytes < most
+  pub whole : stand.input ≡ bytes ++ rest
+  pub left : now.input.told ≡ Some rest
 
 -- all that was written is on out
 abbrev pub HasAll : Stand → Outside → Outside → Type 0
@@ -97,14 +105,14 @@ IsCutAtWrite run bound before now = (given : List ℕ) → before.input.told ≡
     × (run.wrote given n ⊎ (n ≡ bound) ⊎ (ending_at run given n ≢ machine.Running) ⊎ run.may_lack given n)
     × HasFront (run.after given n) before now × HasRest (run.after given n) now
 
--- the run was cut off in a read, behind one of its first turns, of which the source had given some bytes: out
--- has all output of these turns, unless that failed too
+-- the run was cut off in a read behind one of its first turns: out has all output of these turns, unless that failed
+-- too
 abbrev pub IsCutAtRead : Run → ℕ → Outside → Outside → Type 0
 IsCutAtRead run bound before now = (given : List ℕ) → before.input.told ≡ Some given
     → (n : ℕ) × (n < bound) × (ending_at run given n ≡ machine.Running)
     × (HasAll (run.after given n) before now
     ⊎ (Rose before.out.faults now.out.faults × HasFront (run.after given n) before now))
-    × HasPart (run.after given n) now
+    × HasPart (run.reads given n) (run.after given n) now
 
 -- the run was cut off before one of its turns, which lacked memory: out has all output of the turns before
 abbrev pub IsCutAtMemory : Run → ℕ → Outside → Outside → Type 0

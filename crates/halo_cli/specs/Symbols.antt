@@ -4,7 +4,7 @@ use Rattle.std.specs.Prelude.{◌≡◌, ℕ, ◌+◌, ◌⊎◌, List, Option, 
 use Rattle.halo_outside.specs.Seen.{FilesSeen, Contents, Rose}
 use Rattle.plan_core.specs.declared.types.Plan.{Plan}
 use Rattle.rewriter.specs.Rewrites.{rewrite_refusal}
-use Rattle.machine_run.specs.Machines.{Output}
+use Rattle.machine_run.specs.Machines.{Input, Output}
 use Rattle.sym_spec.specs.SymNotes.{note}
 use Rattle.sym_spec.specs.SymRuns.{SymState, sym_run}
 use Rattle.sym_machine.specs.Programs.{Program}
@@ -38,6 +38,7 @@ abbrev pub symbol_run : List ℕ → Plan → Run
 symbol_run file plan = record {
   after = λ input n. symbol_stand (sym_run file plan input n);
   wrote = λ input n. WroteLast file plan input n;
+  reads = λ input n most. asks (program_after file plan input n) ≡ Input most;
   may_lack = λ input n. GrantsNext file plan input n;
   lacks = Unit {0};
 }
