@@ -105,7 +105,8 @@ module _ (file : List ℕ) (plan : Plan) (bound : ℕ) (before now : Outside) (s
     taken = ran.taken;
     answer = answered end input ran.taken ran.answer;
     left = subst (λ s. Left (run_end end) (λ most. asks (program_at (program file plan) s) ≡ Input most)
-        (symbol_stand s) now) (run_is file plan input ran.taken) (left end (run_from (program file plan) input ran.taken) ran.leaves);
+        (symbol_stand s) now) (run_is file plan input ran.taken)
+        (left end (run_from (program file plan) input ran.taken) ran.leaves);
     output = subst (λ (s : SymState). WritesAll (run_end end) before.out now.out s.output)
         (run_is file plan input ran.taken) ran.output;
   }
