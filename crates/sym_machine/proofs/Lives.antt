@@ -1,8 +1,9 @@
 -- Which blocks live, and where they stand, after stores, grants, copies and deaths.
 use Rattle.std.proofs.Common.{◌≡◌, ◌≢◌, ◌⊎◌, inl, inr, ℕ, zero, suc, ◌+◌, ◌*◌, ◌<◌, ◌≤◌, Bool, true, false, ◌&&◌, List}
 use Rattle.std.proofs.Common.{[], ◌∷◌, ◌++◌, length, map, refl, ap, sym, ◌∙◌, arith, length-append}
-use Rattle.std.specs.Prelude.{Option, Some, None, option_map, slice_get, slice_index, slice_set, if◌then◌else◌}
-use Rattle.std.proofs.lemmas.List.{length-map, length-set}
+use Rattle.std.specs.Prelude.{Option, Some, None, option_map, slice_get, slice_index, slice_set, if◌then◌else◌, drop}
+use Rattle.std.specs.Prelude.{take}
+use Rattle.std.proofs.lemmas.List.{length-drop, length-map, length-set, length-take}
 use Rattle.std.proofs.lemmas.Option.{slice_get-map, slice_get_past, slice_get_within}
 use Rattle.rv_isa.specs.declared.Width.{Width}
 use Rattle.machine_spec.specs.Memory.{all_from}
@@ -11,13 +12,13 @@ use Rattle.place_model.specs.Heap.{Heap, LivesAt}
 use Rattle.sym_value.specs.declared.Value.{Value}
 use Rattle.sym_value.specs.declared.Value.TheVariants.{Num, Ptr, Ret, Mix, Part, Unset}
 use Rattle.sym_value.specs.Places.{is_living, lives_in}
+use Rattle.sym_cells.specs.Cells.{Cell}
 use Rattle.sym_cells.specs.Moves.{store}
 use Rattle.sym_cells.specs.Memory.{Block, Memory, is_aligned, is_inside, life_of, live_of, store_plain, stored_in}
 use Rattle.sym_cells.specs.Memory.{stored, granted, died, dropped, set_block, overlaid, overlaid_block, copied}
 use Rattle.rv_isa.specs.declared.Width.{Width}
 use Rattle.machine_spec.specs.Widths.{size_of}
 use Rattle.sym_cells.proofs.Lists.{length-store}
-use Rattle.sym_memory.proofs.BlockLaws.{length-overlaid}
 use Rattle.sym_memory.specs.Held.{memory_after}
 use Rattle.sym_memory.specs.Kept.{is_alive}
 use Rattle.plan_core.specs.Plan.{granules}
@@ -161,6 +162,11 @@ pub store_keeps : (file : List ℕ) (plan : Plan) (heap : Heap) (m : Memory) (at
     → HasPlaces file plan heap m at → HasPlaces file plan heap (memory_after (stored storable m width p v) m) at
 store_keeps file plan heap m at storable width p v h =
     still file plan heap m (memory_after (stored storable m width p v) m) at (stored_lives storable width m p v) h
+
+length-overlaid : (from onto : List Cell) → length (overlaid from onto) ≡ length onto
+length-overlaid from onto =
+    length-append (take (length onto) from) (drop (length from) onto)
+    ∙ omega (arith, length-take (length onto) from, length-drop (length from) onto)
 
 -- so does a copy
 pub copied_lives : (from onto : ℕ) (m : Memory) → map life_of (copied from onto m).blocks ≡ map life_of m.blocks
