@@ -84,6 +84,7 @@ impl CellBuffer {
     }
 
     /// The value of a load at an aligned offset.
+    #[inline(always)]
     pub fn load(&self, width: Width, at: usize) -> Value
         requires { IsAccess width at (4 * length self.now) }
         ensures { result ≡ load_at width at (cell_in self.now) }
@@ -92,6 +93,7 @@ impl CellBuffer {
     }
 
     /// Stores a value at an aligned offset.
+    #[inline(always)]
     pub fn store(&mut self, width: Width, at: usize, value: Value)
         requires { IsAccess width at (4 * length self.old) }
         ensures cells { self.new ≡ store width at value self.old }

@@ -13,6 +13,7 @@ use rv_isa::Width;
 use sym_value::{Value, Whole};
 
 /// The value of a load at an aligned offset.
+#[inline(always)]
 #[tactic(auto, using(crate::proofs::EntryLaws::word_loaded))]
 pub fn load_in(entries: &[Entry], width: Width, at: usize) -> Value
     requires whole { length entries.now % 4 ≡ 0 }
@@ -28,6 +29,7 @@ pub fn load_in(entries: &[Entry], width: Width, at: usize) -> Value
     }
 }
 
+#[inline(always)]
 #[tactic(auto, using(crate::proofs::EntryLaws::word_loaded))]
 fn word_at(entries: &[Entry], at: usize) -> Value
     requires aligned { at % 4 ≡ 0 }
@@ -57,6 +59,7 @@ pub fn byte_at(entries: &[Entry], at: usize) -> Entry
 }
 
 /// The value of four bytes.
+#[inline(always)]
 fn word(a: Entry, b: Entry, c: Entry, d: Entry) -> Value
     ensures { result ≡ word_in (cell_of a b c d) }
 {
@@ -93,6 +96,7 @@ fn word(a: Entry, b: Entry, c: Entry, d: Entry) -> Value
     }
 }
 
+#[inline(always)]
 fn known_word(first: u8, b: Entry, c: Entry, d: Entry) -> Value
     ensures { result ≡ word_of (KnownMark first) (mark_of b) (mark_of c) (mark_of d) }
 {

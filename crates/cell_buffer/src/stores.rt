@@ -12,6 +12,7 @@ use rv_isa::Width;
 use sym_value::{Value, Whole};
 
 /// Makes the four entries of the cell at `at`.
+#[inline(always)]
 #[tactic(auto, using(crate::proofs::EntryLaws::put_four, crate::proofs::EntryLaws::first_put))]
 fn put_cell(entries: &mut [Entry], at: usize, a: Entry, b: Entry, c: Entry, d: Entry)
     requires aligned { at % 4 ≡ 0 }
@@ -75,6 +76,7 @@ fn put(entries: &mut [Entry], at: usize, entry: Entry)
 }
 
 /// Stores a value at an aligned offset.
+#[inline(always)]
 pub fn store_in(entries: &mut [Entry], width: Width, at: usize, value: Value)
     requires whole { length entries.old % 4 ≡ 0 }
     requires access { IsAccess width at (length entries.old) }
@@ -90,6 +92,7 @@ pub fn store_in(entries: &mut [Entry], width: Width, at: usize, value: Value)
     }
 }
 
+#[inline(always)]
 fn store_word(entries: &mut [Entry], at: usize, value: Value)
     requires aligned { at % 4 ≡ 0 }
     requires inside { at + 4 ≤ length entries.old }

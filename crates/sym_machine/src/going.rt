@@ -3,18 +3,21 @@ ghost use Rattle.std.specs.Prelude.{◌≡◌, ◌<◌, ◌≤◌, ℕ, List, fa
 ghost use Rattle.rv_isa.specs.Encoded.{NamesRegisters};
 ghost use Rattle.machine_spec.specs.declared.Ending.{Ending};
 ghost use Rattle.sym_spec.specs.Plain.{is_plain, is_plain_store};
+ghost use Rattle.sym_value.specs.declared.Value.{Value};
+ghost use Rattle.sym_value.specs.Decisions.{decide};
+ghost use Rattle.sym_value.specs.Operations.{apply};
 ghost use Rattle.sym_cells.specs.Memory.{loaded, stored};
 ghost use Rattle.sym_spec.specs.SymCalls.{quiet};
-ghost use Rattle.sym_spec.specs.SymMachine.{goes_to, jumps, loads, stores};
+ghost use Rattle.sym_spec.specs.SymMachine.{gives, goes_to, jumps, lives_of, loads, stores, value_of};
 ghost use Rattle.sym_spec.specs.SymNotes.{empty_note};
-ghost use Rattle.sym_spec.specs.SymTurns.{acts, branches, executes};
+ghost use Rattle.sym_spec.specs.SymTurns.{acts, address_of, branches, executes};
 ghost use Rattle.sym_machine.specs.QuietTurns.{Does, GoesOn, TakesOne};
 ghost use Rattle.sym_machine.specs.Turning.{instr_noted, is_number};
 
 use crate::found::Found;
 use crate::hart::Hart;
-use crate::noting::is_number;
-use rv_isa::{Instr, Width};
+use crate::numbers::{computed, is_held};
+use rv_isa::{Cond, Instr, Op, Width};
 use sym_value::Value;
 
 /// ra, the register that a call leaves its return address in.
@@ -58,7 +61,7 @@ impl<'a> Hart<'a> {
 
     /// The turn of an instruction at no site, if it has an empty note and the machine runs after it.
     #[inline(always)]
-    #[tactic(auto, using(crate::proofs::Quiet::no_access), unfolding(sym_spec::specs::SymTurns::acts))]
+    #[tactic(auto, using(crate::proofs::Quiet::no_access, crate::proofs::Quiet::applied_there), unfolding(sym_spec::specs::SymTurns::acts))]
     fn acts_quietly(&mut self, i: Instr) -> bool
         requires { NamesRegisters i }
         ensures does { Does result (acts self.old.file self.old.plan i self.old.machine) self.old self.new }
@@ -83,30 +86,31 @@ impl<'a> Hart<'a> {
                 rs1,
                 rs2,
                 imm,
-            } => {
-                let decided = self.decide(cond, self.register(rs1), self.register(rs2));
-                self.branches_quietly(decided, pc.wrapping_add(imm))
-            }
+            } => self.branches_quietly(self.decided(cond, rs1, rs2), pc.wrapping_add(imm)),
             Instr::Load {
                 width,
                 rd,
                 rs1,
                 imm,
-            } => self.loads_quietly(width, rd, self.address(rs1, imm)),
+            } => self.loads_quietly(width, rd, rs1, imm),
             Instr::Store {
                 width,
                 rs1,
                 rs2,
                 imm,
-            } => self.stores_quietly(width, self.address(rs1, imm), self.register(rs2)),
+            } => self.stores_quietly(width, rs1, imm, rs2),
             Instr::OpImm { op, rd, rs1, imm } => {
-                let value = self.apply(op, self.register(rs1), Value::Num(imm));
-                self.gives(rd, value);
+                match self.number(rs1) {
+                    Some(v) => self.gives(rd, Value::Num(computed(op, v, imm))),
+                    None => self.operates(op, rd, self.register(rs1), Value::Num(imm)),
+                }
                 true
             }
             Instr::Reg { op, rd, rs1, rs2 } => {
-                let value = self.apply(op, self.register(rs1), self.register(rs2));
-                self.gives(rd, value);
+                match (self.number(rs1), self.number(rs2)) {
+                    (Some(v), Some(w)) => self.gives(rd, Value::Num(computed(op, v, w))),
+                    _ => self.operates(op, rd, self.register(rs1), self.register(rs2)),
+                }
                 true
             }
             Instr::Fence { .. } => {
@@ -115,6 +119,41 @@ impl<'a> Hart<'a> {
             }
             Instr::Jalr { .. } | Instr::Ecall | Instr::Ebreak => false,
         }
+    }
+
+    /// An operation on two values, of which one may be no number.
+    #[inline(never)]
+    fn operates(&mut self, op: Op, rd: u8, a: Value, b: Value)
+        requires { rd < 32 }
+        ensures { self.new ≡ record self.old {
+          machine = gives rd (apply (lives_of self.old.file self.old.machine) op a b) self.old.machine;
+        } }
+    {
+        let value = self.apply(op, a, b);
+        self.gives(rd, value);
+    }
+
+    /// Whether a condition of two registers holds; none where that isn't decided.
+    #[inline(always)]
+    #[tactic(auto, using(crate::proofs::Quiet::decided_there))]
+    fn decided(&self, cond: Cond, rs1: u8, rs2: u8) -> Option<bool>
+        requires first { rs1 < 32 }
+        requires second { rs2 < 32 }
+        ensures { result ≡ decide (lives_of self.now.file self.now.machine) cond
+            (value_of self.now.machine rs1) (value_of self.now.machine rs2) }
+    {
+        match (self.number(rs1), self.number(rs2)) {
+            (Some(v), Some(w)) => Some(is_held(cond, v, w)),
+            _ => self.decided_of(cond, self.register(rs1), self.register(rs2)),
+        }
+    }
+
+    /// Whether a condition of two values holds, of which one may be no number.
+    #[inline(never)]
+    fn decided_of(&self, cond: Cond, a: Value, b: Value) -> Option<bool>
+        ensures { result ≡ decide (lives_of self.now.file self.now.machine) cond a b }
+    {
+        self.decide(cond, a, b)
     }
 
     /// A jump that links no return address, to a code word.
@@ -161,17 +200,35 @@ impl<'a> Hart<'a> {
 
     /// A load by a number.
     #[inline(always)]
-    fn loads_quietly(&mut self, width: Width, rd: u8, at: Value) -> bool
-        requires { rd < 32 }
-        ensures does { Does result
-            (loads rd (loaded (is_plain self.old.file) self.old.machine.memory width at) self.old.machine)
-            self.old self.new }
-        ensures number { result ≡ true → is_number at ≡ true }
+    #[tactic(auto, using(crate::proofs::Quiet::address_there, crate::proofs::Quiet::word_there))]
+    fn loads_quietly(&mut self, width: Width, rd: u8, rs1: u8, imm: u32) -> bool
+        requires register { rd < 32 }
+        requires base { rs1 < 32 }
+        ensures does { Does result (loads rd (loaded (is_plain self.old.file) self.old.machine.memory width
+            (address_of self.old.file self.old.machine rs1 imm)) self.old.machine) self.old self.new }
+        ensures number { result ≡ true → is_number (address_of self.old.file self.old.machine rs1 imm) ≡ true }
     {
-        if !is_number(at) {
+        let Some(base) = self.number(rs1) else {
             return false;
+        };
+        let addr = base.wrapping_add(imm);
+        if let Width::Word = width {
+            if let Some(word) = self.memory.word_at(addr) {
+                self.gives(rd, Value::Num(word));
+                return true;
+            }
         }
-        match self.memory.load(at, width) {
+        self.loads_by(width, rd, addr)
+    }
+
+    /// A load of any width and value.
+    #[inline(never)]
+    fn loads_by(&mut self, width: Width, rd: u8, addr: u32) -> bool
+        requires { rd < 32 }
+        ensures { Does result (loads rd (loaded (is_plain self.old.file) self.old.machine.memory width
+            (Value.Num addr)) self.old.machine) self.old self.new }
+    {
+        match self.memory.load(Value::Num(addr), width) {
             Some(value) => {
                 self.gives(rd, value);
                 true
@@ -182,16 +239,26 @@ impl<'a> Hart<'a> {
 
     /// A store by a number.
     #[inline(always)]
-    fn stores_quietly(&mut self, width: Width, at: Value, value: Value) -> bool
-        ensures does { Does result
-            (stores (stored (is_plain_store self.old.file) self.old.machine.memory width at value) self.old.machine)
-            self.old self.new }
-        ensures number { result ≡ true → is_number at ≡ true }
+    #[tactic(auto, using(crate::proofs::Quiet::address_there, crate::proofs::Quiet::number_there))]
+    fn stores_quietly(&mut self, width: Width, rs1: u8, imm: u32, rs2: u8) -> bool
+        requires base { rs1 < 32 }
+        requires value { rs2 < 32 }
+        ensures does { Does result (stores (stored (is_plain_store self.old.file) self.old.machine.memory width
+            (address_of self.old.file self.old.machine rs1 imm) (value_of self.old.machine rs2))
+            self.old.machine) self.old self.new }
+        ensures number { result ≡ true → is_number (address_of self.old.file self.old.machine rs1 imm) ≡ true }
     {
-        if !is_number(at) {
+        let Some(base) = self.number(rs1) else {
             return false;
-        }
-        let stored = self.memory.store(at, width, value);
+        };
+        let addr = base.wrapping_add(imm);
+        let stored = match (width, self.number(rs2)) {
+            (Width::Word, Some(word)) => self.memory.store_word(addr, word),
+            _ => {
+                let value = self.register(rs2);
+                self.memory.store(Value::Num(addr), width, value)
+            }
+        };
         if stored {
             self.passes();
         }

@@ -1,6 +1,6 @@
 // The memory of a program: plain bytes are those of its file, blocks stand where its plan places them, and
 // buffers are reached byte by byte.
-ghost use Rattle.std.specs.Prelude.{◌≡◌, ◌+◌, ◌^◌, ◌<◌, ◌≤◌, [], true, is_some, length, unwrap_or, IfOk, drop, take};
+ghost use Rattle.std.specs.Prelude.{◌≡◌, ◌+◌, ◌^◌, ◌<◌, ◌≤◌, [], true, is_some, length, option_and_then, unwrap_or, IfOk, drop, take};
 ghost use Rattle.elf_spec.specs.Memory.{image_end};
 ghost use Rattle.elf_spec.specs.Records.{segments_of};
 ghost use Rattle.plan_core.specs.Plan.{granules};
@@ -8,10 +8,13 @@ ghost use Rattle.place_spec.specs.Layout.{address_of, first_layout};
 ghost use Rattle.heap_spec.specs.Places.{base_of};
 ghost use Rattle.site_spec.specs.Places.{text_room};
 ghost use Rattle.site_spec.specs.Plans.{Fits};
+ghost use Rattle.rv_isa.specs.declared.Width.{Width};
+ghost use Rattle.sym_value.specs.declared.Value.{Value};
 ghost use Rattle.sym_cells.specs.Memory.{live_of, loaded, stored};
 ghost use Rattle.sym_cells.specs.Buffers.{is_within, taken};
 ghost use Rattle.sym_spec.specs.Plain.{is_plain, is_plain_store};
 ghost use Rattle.sym_spec.specs.StartMemory.{start_memory};
+ghost use Rattle.sym_spec.specs.SymCalls.{word_in};
 ghost use Rattle.sym_memory.specs.Held.{memory_after};
 ghost use Rattle.sym_machine.specs.Reached.{HeldMemory, IsLow, behind_by, number_at, put_from};
 
@@ -107,6 +110,29 @@ impl<'a> ImageMemory<'a> {
         ensures { result ≡ loaded (is_plain self.now.file) self.now.memory width at }
     {
         self.held.load(at, width)
+    }
+
+    /// The number that a load of a word gives at a plain address; none where it gives another value or none.
+    #[inline(always)]
+    pub fn word_at(&self, addr: u32) -> Option<u32>
+        ensures { result ≡ option_and_then word_in
+            (loaded (is_plain self.now.file) self.now.memory Width.Word (Value.Num addr)) }
+    {
+        self.held.word_at(addr)
+    }
+
+    /// Stores a number as a word at a plain address, as `store` does.
+    #[inline(always)]
+    #[tactic(auto, using(crate::proofs::Lives::store_keeps))]
+    pub fn store_word(&mut self, addr: u32, word: u32) -> bool
+        ensures answer { result ≡ is_some (stored (is_plain_store self.old.file) self.old.memory
+            Width.Word (Value.Num addr) (Value.Num word)) }
+        ensures memory { self.new ≡ record self.old {
+          memory = memory_after (stored (is_plain_store self.old.file) self.old.memory
+              Width.Word (Value.Num addr) (Value.Num word)) self.old.memory;
+        } }
+    {
+        self.held.store_word(addr, word)
     }
 
     /// Stores a value. False exactly where it isn't aligned or not all its bytes can be stored to; then

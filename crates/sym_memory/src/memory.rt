@@ -1,5 +1,8 @@
 // Symbol memory with its public calls: plain memory is reached by numbers, a block by pointers to it.
-ghost use Rattle.std.specs.Prelude.{◌≡◌, ◌≢◌, ◌<◌, ◌≤◌, true, is_some, length, IfOk, OnErr, slice_get};
+ghost use Rattle.std.specs.Prelude.{◌≡◌, ◌≢◌, ◌<◌, ◌≤◌, true, is_some, length, IfOk, OnErr, option_and_then, slice_get};
+ghost use Rattle.rv_isa.specs.declared.Width.{Width};
+ghost use Rattle.sym_value.specs.declared.Value.{Value};
+ghost use Rattle.sym_spec.specs.SymCalls.{word_in};
 ghost use Rattle.sym_cells.specs.Memory.{live_of, loaded, stored, known, granted, copied, dropped};
 ghost use Rattle.sym_cells.specs.Buffers.{is_within};
 ghost use Rattle.elf_spec.specs.Memory.{image_end};
@@ -72,6 +75,33 @@ impl SymMemory {
             Value::Ptr { block, offset } => self.blocks.load(block, width, offset),
             Value::Ret(_) | Value::Mix(_) | Value::Part { .. } | Value::Unset => None,
         }
+    }
+
+    /// The number that a load of a word gives at a plain address; none where it gives another value or none.
+    #[inline(always)]
+    #[tactic(auto, using(crate::proofs::MemoryLaws::number_loaded))]
+    pub fn word_at(&self, addr: u32) -> Option<u32>
+        ensures { result ≡ option_and_then word_in
+            (loaded (is_plain_in self.now.parts) self.now.memory Width.Word (Value.Num addr)) }
+    {
+        match self.plain.load(Width::Word, addr) {
+            Some(Value::Num(word)) => Some(word),
+            _ => None,
+        }
+    }
+
+    /// Stores a number as a word at a plain address, as `store` does.
+    #[inline(always)]
+    #[tactic(auto, using(crate::proofs::MemoryLaws::number_stores, crate::proofs::MemoryLaws::number_stored))]
+    pub fn store_word(&mut self, addr: u32, word: u32) -> bool
+        ensures answer { result ≡ is_some (stored (is_storable_in self.old.parts) self.old.memory
+            Width.Word (Value.Num addr) (Value.Num word)) }
+        ensures memory { self.new ≡ record self.old {
+          memory = memory_after (stored (is_storable_in self.old.parts) self.old.memory
+              Width.Word (Value.Num addr) (Value.Num word)) self.old.memory;
+        } }
+    {
+        self.plain.store(Width::Word, addr, Value::Num(word))
     }
 
     /// The number of the byte that is `i` behind an address, modulo 2^32; none exactly where it is

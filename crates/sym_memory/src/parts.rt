@@ -20,6 +20,7 @@ pub struct PlainPart {
 }
 
 impl PlainPart {
+    #[inline(always)]
     fn allows(&self, access: Access) -> bool
         ensures { result ≡ allows access self.now }
     {
@@ -37,6 +38,7 @@ impl PlainPart {
     }
 
     /// Whether it has `size` addresses from one on and allows the access.
+    #[inline(always)]
     fn gives_all(&self, access: Access, addr: usize, size: usize) -> bool
         requires { addr + size < 2 ^ 63 }
         ensures { result ≡ gives_all access addr size self.now }
@@ -53,6 +55,7 @@ pub fn is_allowed(parts: &[PlainPart], access: Access, addr: usize) -> bool
 }
 
 /// Whether one part has `size` addresses from one on and allows the access.
+#[inline(always)]
 fn is_in_one(parts: &[PlainPart], access: Access, addr: usize, size: usize) -> bool
     requires { addr + size < 2 ^ 63 }
     ensures { result ≡ list_any (gives_all access addr size) parts.now }
@@ -74,6 +77,7 @@ fn is_each_allowed(parts: &[PlainPart], access: Access, addr: usize, size: usize
 }
 
 /// Whether each of `size` addresses from one on allows an access.
+#[inline(always)]
 #[tactic(auto, using(crate::proofs::PartLaws::one_gives_all))]
 pub fn are_allowed(parts: &[PlainPart], access: Access, addr: usize, size: usize) -> bool
     requires { addr + size < 2 ^ 63 }

@@ -41,6 +41,7 @@ impl Plain {
     }
 
     /// The value of a load; none exactly where it isn't aligned or not all its bytes are plain.
+    #[inline(always)]
     pub fn load(&self, width: Width, addr: u32) -> Option<Value>
         ensures { result ≡ (if is_aligned width addr && all_from (is_plain_in self.now.parts) addr (size_of width)
             then Some (load_at width addr (cell_at self.now.spans)) else None) }
@@ -66,6 +67,7 @@ impl Plain {
 
     /// Stores a value. False exactly where it isn't aligned or not all its bytes can be stored to; then
     /// nothing changes.
+    #[inline(always)]
     pub fn store(&mut self, width: Width, addr: u32, value: Value) -> bool
         ensures answer { result ≡ (is_aligned width addr
             && all_from (is_storable_in self.old.parts) addr (size_of width)) }
@@ -87,6 +89,7 @@ impl Plain {
     }
 
     /// Whether an access is aligned, and each of its bytes allows it.
+    #[inline(always)]
     fn allows(&self, access: Access, width: Width, addr: u32) -> bool
         ensures { result ≡ (is_aligned width addr && all_from (allowed access self.now.parts) addr (size_of width)) }
     {

@@ -21,6 +21,7 @@ pub struct PlainSpan {
 
 impl PlainSpan {
     /// Whether it has the cell of an address.
+    #[inline(always)]
     fn has(&self, addr: u32) -> bool
         ensures { result ≡ has (addr / 4) (span_of self.now) }
     {
@@ -29,12 +30,14 @@ impl PlainSpan {
     }
 
     /// Where an address stands in its buffer.
+    #[inline(always)]
     fn place_of(&self, addr: u32) -> usize
         ensures { result ≡ addr - 4 * self.now.first }
     {
         (addr as usize).saturating_sub(4 * self.first as usize)
     }
 
+    #[inline(always)]
     fn load(&self, width: Width, addr: u32) -> Value
         requires { IsAccess width (addr - 4 * self.now.first) (4 * length self.now.cells) }
         ensures { result ≡ load_at width (addr - 4 * self.now.first) (cell_in self.now.cells) }
@@ -49,6 +52,7 @@ impl PlainSpan {
         self.cells.known(self.place_of(addr))
     }
 
+    #[inline(always)]
     fn store(&mut self, width: Width, addr: u32, value: Value)
         requires { IsAccess width (addr - 4 * self.old.first) (4 * length self.old.cells) }
         ensures { self.new ≡ record self.old { cells = store width (addr - 4 * self.old.first) value self.old.cells } }
@@ -59,6 +63,7 @@ impl PlainSpan {
 }
 
 /// The first span that has the cell of an address.
+#[inline(always)]
 fn find_span(spans: &[PlainSpan], addr: u32) -> Option<usize>
     ensures first { result ≡ position (λ s. has (addr / 4) (span_of s)) spans.now }
     ensures inside { IfSome result (λ i. i < length spans.now) }
@@ -67,6 +72,7 @@ fn find_span(spans: &[PlainSpan], addr: u32) -> Option<usize>
 }
 
 /// The value of a load at an aligned address.
+#[inline(always)]
 pub fn load_in(spans: &[PlainSpan], width: Width, addr: u32) -> Value
     requires { addr % size_of width ≡ 0 }
     ensures { result ≡ load_at width addr (cell_at (spans_of spans.now)) }
@@ -88,6 +94,7 @@ pub fn known_in(spans: &[PlainSpan], addr: u32) -> Option<u8>
 }
 
 /// Stores a value at an aligned address.
+#[inline(always)]
 pub fn store_in(spans: &mut [PlainSpan], width: Width, addr: u32, value: Value)
     requires { addr % size_of width ≡ 0 }
     ensures { spans_of spans.new ≡ store_plain width addr value (spans_of spans.old) }

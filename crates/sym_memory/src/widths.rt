@@ -6,6 +6,7 @@ ghost use Rattle.sym_cells.specs.Memory.{is_aligned};
 use rv_isa::Width;
 
 /// How many bytes a load or a store moves.
+#[inline(always)]
 pub fn size_of(width: Width) -> usize
     ensures is { result ≡ size_of width }
     ensures small { result ≤ 4 }
@@ -17,6 +18,7 @@ pub fn size_of(width: Width) -> usize
     }
 }
 
+#[inline(always)]
 pub fn is_aligned(width: Width, offset: u32) -> bool
     ensures { result ≡ is_aligned width offset }
 {
