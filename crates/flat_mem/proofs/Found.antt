@@ -1,13 +1,13 @@
--- The area at an address: where its byte stands, which range it is, and that it stays the same over the
--- area's addresses.
-use Rattle.std.proofs.Common.{◌≡◌, ◌⊎◌, ℕ, suc, ◌+◌, ◌-◌, ◌<◌, ◌≤◌, List, [], ◌∷◌, Bool, true, false, cond, length}
-use Rattle.std.proofs.Common.{take, drop, refl, ap, ◌∙◌, arith, inl, inr, get_or, length-take, length-drop, AllPairs}
-use Rattle.std.specs.Prelude.{Some, None, option_map, find}
+-- The area at an address, with the range and the byte there; areas whose bytes are the same at their addresses.
+use Rattle.std.proofs.Common.{◌≡◌, ◌⊎◌, ℕ, zero, suc, ◌+◌, ◌-◌, ◌<◌, ◌≤◌, List, [], ◌∷◌, Bool, true, false}
+use Rattle.std.proofs.Common.{cond, length, map, refl, ap, arith, inl, inr, get_or, AllPairs}
+use Rattle.std.specs.Prelude.{Some, None, option_map, is_some}
+use Rattle.std.specs.List.{range_with_len}
 use Rattle.std.proofs.lemmas.Bool.Decides.{nat_tests}
-use Rattle.std.proofs.lemmas.List.{get_or-take, get_or-drop}
+use Rattle.std.proofs.lemmas.List.FromFn.{get_or-map-range_with_len, length-map-range_with_len}
 use Rattle.machine_spec.specs.Memory.{range_at, byte_of}
 use Rattle.flat_mem.specs.declared.area.Area.{Area}
-use Rattle.flat_mem.specs.Areas.{has_address, range_in, ranges, FillsFrom, AreApart}
+use Rattle.flat_mem.specs.Areas.{has_address, area_of, range_in, ranges, AreApart}
 
 pub has_bounds : (a : ℕ) (s : Area) → has_address a s ≡ true → (s.start ≤ a) × (a < s.start + s.size)
 has_bounds a s e = grind (arith, nat_tests)
@@ -15,128 +15,109 @@ has_bounds a s e = grind (arith, nat_tests)
 pub has_from : (a : ℕ) (s : Area) → s.start ≤ a → a < s.start + s.size → has_address a s ≡ true
 has_from a s low high = grind (arith, nat_tests)
 
-pub fills_end : (place : ℕ) (areas : List Area) (end : ℕ) → FillsFrom place areas end → place ≤ end
-fills_end place [] end h = omega (arith, h)
-fills_end place (s ∷ ss) end h = omega (arith, fills_end (place + s.size) ss end h.1)
-
--- an area that was found has the address, and its part is inside the buffer
-pub record IsFound (a place end : ℕ) (s : Area) : Type 0 where
-  pub has : has_address a s ≡ true
-  pub low : s.start ≤ a
-  pub high : a < s.start + s.size
-  pub behind : place ≤ s.place
-  pub inside : s.place + s.size ≤ end
-
-pub found : (a place : ℕ) (areas : List Area) (end : ℕ) (s : Area) → FillsFrom place areas end
-    → find (has_address a) areas ≡ Some s → IsFound a place end s
-found a place [] end s h e = absurd (cc)
-found a place (r ∷ rs) end s h e = at (found a (place + r.size) rs end s h.1) (has_address a r) refl e
+-- an area that was found has the address
+pub find_has : (a : ℕ) (areas : List Area) (s : Area) → area_of areas a ≡ Some s → has_address a s ≡ true
+find_has a [] s e = absurd (cc)
+find_has a (r ∷ rs) s e = at (find_has a rs s) (has_address a r) refl e
   where
-    at : (find (has_address a) rs ≡ Some s → IsFound a (place + r.size) end s) → (v : Bool) → has_address a r ≡ v
-        → cond v (Some r) (find (has_address a) rs) ≡ Some s → IsFound a place end s
-    at ih true d e =
-        let same : r ≡ s = cc in
-        let b : (r.start ≤ a) × (a < r.start + r.size) = has_bounds a r d in
-        let l : place + r.size ≤ end = fills_end (place + r.size) rs end h.1 in
-        let p : r.place ≡ place = h.0 in
-        let all : IsFound a place end r = record {
-          has = d;
-          low = b.0;
-          high = b.1;
-          behind = omega (arith, p);
-          inside =
-              omega (arith, p, l);
-        } in
-        rw same at all
-    at ih false d e =
-        let f : IsFound a (place + r.size) end s = ih e in
-        record { has = f.has; low = f.low; high = f.high; behind = omega (arith, f.behind); inside = f.inside }
-
-pub part_length : (n place : ℕ) (bytes : List ℕ) → place + n ≤ length bytes → length (take n (drop place bytes)) ≡ n
-part_length n place bytes h = omega (arith, length-take n (drop place bytes), length-drop place bytes)
+    at : (area_of rs a ≡ Some s → has_address a s ≡ true) → (v : Bool) → has_address a r ≡ v
+        → cond v (Some r) (area_of rs a) ≡ Some s → has_address a s ≡ true
+    at ih true d e = let same : r ≡ s = cc in rw same at d
+    at ih false d e = ih e
 
 -- the range at an address is that of the area there
-pub range_at_ranges : (a place : ℕ) (areas : List Area) (bytes : List ℕ) → FillsFrom place areas (length bytes)
-    → range_at (ranges areas bytes) a ≡ option_map (range_in bytes) (find (has_address a) areas)
-range_at_ranges a place [] bytes h = refl
-range_at_ranges a place (r ∷ rs) bytes h =
-    let l : place + r.size ≤ length bytes = fills_end (place + r.size) rs (length bytes) h.1 in
-    let p : r.place ≡ place = h.0 in
-    let n : length (take r.size (drop r.place bytes)) ≡ r.size =
-    part_length r.size r.place bytes (omega (arith, p, l)) in
-    rw n (at (range_at_ranges a (place + r.size) rs bytes h.1) (has_address a r))
+pub range_at_ranges : (byte : ℕ → ℕ) (a : ℕ) (areas : List Area)
+    → range_at (ranges byte areas) a ≡ option_map (range_in byte) (area_of areas a)
+range_at_ranges byte a [] = refl
+range_at_ranges byte a (r ∷ rs) =
+    rw (length-map-range_with_len byte r.start r.size) (at (range_at_ranges byte a rs) (has_address a r))
   where
-    at : range_at (ranges rs bytes) a ≡ option_map (range_in bytes) (find (has_address a) rs) → (v : Bool)
-        → cond v (Some (range_in bytes r)) (range_at (ranges rs bytes) a)
-        ≡ option_map (range_in bytes) (cond v (Some r) (find (has_address a) rs))
+    at : range_at (ranges byte rs) a ≡ option_map (range_in byte) (area_of rs a) → (v : Bool)
+        → cond v (Some (range_in byte r)) (range_at (ranges byte rs) a)
+        ≡ option_map (range_in byte) (cond v (Some r) (area_of rs a))
     at ih true = refl
     at ih false = ih
 
--- the byte at an address stands in the area's part
-pub byte_found : (a place : ℕ) (areas : List Area) (bytes : List ℕ) (s : Area) → FillsFrom place areas (length bytes)
-    → find (has_address a) areas ≡ Some s → byte_of (ranges areas bytes) a
-    ≡ Some (get_or bytes (s.place + (a - s.start)) 0)
+-- and the byte at an address that of the function
+pub byte_found : (byte : ℕ → ℕ) (a : ℕ) (areas : List Area) (s : Area) → area_of areas a ≡ Some s
+    → byte_of (ranges byte areas) a ≡ Some (byte a)
 unfolding byte_of
-byte_found a place areas bytes s h e =
-    let f : IsFound a place (length bytes) s = found a place areas (length bytes) s h e in
-    let i : a - s.start < s.size = omega (arith, f.low, f.high) in
-    rw (range_at_ranges a place areas bytes h, e)
-    (ap (λ x. Some x) (get_or-take s.size (drop s.place bytes) (a - s.start) 0 i
-    ∙ get_or-drop s.place bytes (a - s.start) 0))
+byte_found byte a areas s e =
+    let b : (s.start ≤ a) × (a < s.start + s.size) = has_bounds a s (find_has a areas s e) in
+    rw (range_at_ranges byte a areas, e)
+    (ap (λ x. Some x) (get_or-map-range_with_len byte s.start s.size (a - s.start) a 0 (omega (arith, b.0, b.1))
+    (omega (arith, b.0))))
 
-pub no_byte : (a place : ℕ) (areas : List Area) (bytes : List ℕ) → FillsFrom place areas (length bytes)
-    → find (has_address a) areas ≡ None → byte_of (ranges areas bytes) a ≡ None
+pub no_byte : (byte : ℕ → ℕ) (a : ℕ) (areas : List Area) → area_of areas a ≡ None
+    → byte_of (ranges byte areas) a ≡ None
 unfolding byte_of
-no_byte a place areas bytes h e = rw (range_at_ranges a place areas bytes h, e) refl
+no_byte byte a areas e = rw (range_at_ranges byte a areas, e) refl
 
--- where an area is found
-find_place : (a : ℕ) (areas : List Area) (s : Area) → find (has_address a) areas ≡ Some s
-    → (j : ℕ) × (j < length areas) × (get_or areas j s ≡ s) × (has_address a s ≡ true)
-find_place a [] s e = absurd (cc)
-find_place a (r ∷ rs) s e = at (find_place a rs s) (has_address a r) refl e
+-- functions that agree on the addresses of areas give the same ranges
+pub map_same : (f g : ℕ → ℕ) (a n : ℕ) → ((k : ℕ) → a ≤ k → k < a + n → f k ≡ g k)
+    → map f (range_with_len a n) ≡ map g (range_with_len a n)
+map_same f g a zero h = refl
+map_same f g a (suc n) h =
+    rw (h a (omega arith) (omega arith), map_same f g (a + 1) n (λ k low high. h k (omega arith) (omega arith))) refl
+
+head_there : (r : Area) (rs : List Area) (k : ℕ) → r.start ≤ k → k < r.start + r.size
+    → is_some (area_of (r ∷ rs) k) ≡ true
+head_there r rs k low high = rw (has_from k r low high) refl
+
+pub tail_there : (r : Area) (rs : List Area) (k : ℕ) → is_some (area_of rs k) ≡ true
+    → is_some (area_of (r ∷ rs) k) ≡ true
+tail_there r rs k h = at (has_address k r)
   where
-    at : (find (has_address a) rs ≡ Some s → (j : ℕ) × (j < length rs) × (get_or rs j s ≡ s) × (has_address a s ≡ true))
-        → (v : Bool) → has_address a r ≡ v
-        → cond v (Some r) (find (has_address a) rs) ≡ Some s
-        → (j : ℕ) × (j < length (r ∷ rs)) × (get_or (r ∷ rs) j s ≡ s) × (has_address a s ≡ true)
-    at ih true d e = let same : r ≡ s = cc in (0, omega arith, same, rw same at d)
-    at ih false d e = let (j, l, g, p) = ih e in (suc j, omega (arith, l), g, p)
+    at : (v : Bool) → is_some (cond v (Some r) (area_of rs k)) ≡ true
+    at true = refl
+    at false = h
 
-pub find_has : (a : ℕ) (areas : List Area) (s : Area) → find (has_address a) areas ≡ Some s → has_address a s ≡ true
-find_has a areas s e = let (j, l, g, p) = find_place a areas s e in p
+pub ranges_same : (f g : ℕ → ℕ) (areas : List Area) → ((k : ℕ) → is_some (area_of areas k) ≡ true → f k ≡ g k)
+    → ranges f areas ≡ ranges g areas
+ranges_same f g [] h = refl
+ranges_same f g (r ∷ rs) h =
+    rw (
+      map_same f g r.start r.size (λ k low high. h k (head_there r rs k low high)),
+      ranges_same f g rs (λ k t. h k (tail_there r rs k t)),
+    ) refl
 
+-- areas that are apart
 pairs_tail : (r : Area) (rs : List Area) → AllPairs AreApart (r ∷ rs) → AllPairs AreApart rs
 pairs_tail r rs h = λ i j d l m. h (suc i) (suc j) d (omega arith) (omega arith)
 
-apart_has : (k : ℕ) (r s : Area) → AreApart r s → has_address k s ≡ true → has_address k r ≡ false
+pub apart_has : (k : ℕ) (r s : Area) → AreApart r s → has_address k s ≡ true → has_address k r ≡ false
 apart_has k r s h e = at (has_address k r) refl (has_bounds k s e) h
   where
+    off : (r.start ≤ k) × (k < r.start + r.size) → (s.start ≤ k) × (k < s.start + s.size)
+        → (r.start + r.size ≤ s.start) ⊎ (s.start + s.size ≤ r.start) → ⊥
+    off (a, b) (c, d) (inl p) = omega arith
+    off (a, b) (c, d) (inr p) = omega arith
+
     at : (v : Bool) → has_address k r ≡ v → (s.start ≤ k) × (k < s.start + s.size) → (r.start + r.size ≤ s.start)
         ⊎ (s.start + s.size ≤ r.start)
         → has_address k r ≡ false
     at false d b h = d
     at true d b h = absurd (off (has_bounds k r d) b h)
-      where
-        off : (r.start ≤ k) × (k < r.start + r.size) → (s.start ≤ k) × (k < s.start + s.size)
-            → (r.start + r.size ≤ s.start) ⊎ (s.start + s.size ≤ r.start) → ⊥
-        off (a, b) (c, d) (inl p) = omega arith
-        off (a, b) (c, d) (inr p) = omega arith
 
--- the area at an address is the one at each of its addresses
-pub stays : (a k : ℕ) (areas : List Area) (s : Area) → AllPairs AreApart areas → find (has_address a) areas ≡ Some s
-    → s.start ≤ k → k < s.start + s.size → find (has_address k) areas ≡ Some s
-stays a k [] s h e low high = absurd (cc)
-stays a k (r ∷ rs) s h e low high = at (λ e. stays a k rs s (pairs_tail r rs h) e low high) (has_address a r) refl e
+-- the first of areas has no address of the others
+first_apart : (r : Area) (rs : List Area) (k : ℕ) → ((j : ℕ) (d : Area) → j < length rs → AreApart r (get_or rs j d))
+    → is_some (area_of rs k) ≡ true → has_address k r ≡ false
+first_apart r [] k h t = absurd (cc)
+first_apart r (s ∷ ss) k h t =
+    at (first_apart r ss k (λ j d l. h (suc j) d (omega arith))) (has_address k s) refl t
   where
-    at : (find (has_address a) rs ≡ Some s → find (has_address k) rs ≡ Some s) → (v : Bool) → has_address a r ≡ v
-        → cond v (Some r) (find (has_address a) rs) ≡ Some s
-        → cond (has_address k r) (Some r) (find (has_address k) rs) ≡ Some s
-    at ih true d e =
-        let same : r ≡ s = cc in
-        let there : has_address k r ≡ true = rw same (has_from k s low high) in
-        rw there e
-    at ih false d e =
-        let (j, l, g, p) = find_place a rs s e in
-        let away : AreApart r s = let q : AreApart r (get_or rs j s) = h 0 (suc j) s (omega arith) (omega (arith, l)) in
-        rw g at q in
-        rw (apart_has k r s away (has_from k s low high)) (ih e)
+    at : (is_some (area_of ss k) ≡ true → has_address k r ≡ false) → (v : Bool) → has_address k s ≡ v → is_some (cond v (Some s) (area_of ss k)) ≡ true
+        → has_address k r ≡ false
+    at ih true e t = apart_has k r s (h 0 s (omega arith)) e
+    at ih false e t = ih t
+
+pub others_apart : (r : Area) (rs : List Area) (k : ℕ) → AllPairs AreApart (r ∷ rs) → is_some (area_of rs k) ≡ true
+    → has_address k r ≡ false
+others_apart r rs k h t = first_apart r rs k (λ j d l. h 0 (suc j) d (omega arith) (omega (arith, l))) t
+
+pub others_pairs : (r : Area) (rs : List Area) → AllPairs AreApart (r ∷ rs) → AllPairs AreApart rs
+others_pairs r rs h = pairs_tail r rs h
+
+pub not_both : (b : Bool) → b ≡ true → b ≡ false → ⊥
+not_both true e f = absurd (cc)
+not_both false e f = absurd (cc)

@@ -1,21 +1,21 @@
 -- Words that can't be stored to, which no store changes: what is kept of them stays right.
 use Rattle.std.proofs.Common.{◌≡◌, ◌⊎◌, ℕ, zero, suc, ◌+◌, ◌%◌, ◌<◌, ◌≤◌, List, [], ◌∷◌, Bool, true, false, cond, ◌==◌}
-use Rattle.std.proofs.Common.{◌&&◌, length, map, refl, ap, sym, ◌∙◌, arith, inl, inr, replicate}
+use Rattle.std.proofs.Common.{◌&&◌, length, refl, ap, sym, ◌∙◌, arith, inl, inr, replicate}
 use Rattle.std.specs.List.{All}
-use Rattle.std.specs.Prelude.{Option, Some, None, not, nat_lt, option_and_then}
+use Rattle.std.specs.Prelude.{Some, None, not, nat_lt, option_and_then}
 use Rattle.std.proofs.lemmas.List.Elements.{All-nil, All-cons}
 use Rattle.std.proofs.lemmas.Bool.Decides.{nat_tests}
 use Rattle.rv_isa.specs.Table.{decoded}
 use Rattle.rv_isa.specs.declared.Width.{Width}
 use Rattle.machine_spec.specs.Widths.{low_bytes, size_of}
-use Rattle.machine_spec.specs.Memory.{Range, shape_of, range_at, byte_of}
+use Rattle.machine_spec.specs.Memory.{Range, range_at}
 use Rattle.machine_spec.proofs.AllFrom.{all_agree, and_second, each_passes}
 use Rattle.flat_spec.specs.Stores.{allows_store, can_store, fetched, put_bytes, stored}
 use Rattle.flat_spec.proofs.Memories.{same_writable}
 use Rattle.flat_spec.proofs.Pieces.{put_bytes_shape, put_bytes_elsewhere, fetched_same}
 use Rattle.flat_mem.specs.declared.decoding.Known.{Known}
 use Rattle.flat_mem.specs.Calls.{Stores}
-use Rattle.flat_mem.specs.Decoded.{instr_at, is_fixed, IsKnown, IsTable}
+use Rattle.flat_mem.specs.Decoded.{is_fixed, IsKnown, IsTable}
 use Rattle.flat_mem.proofs.Numbers.{length-low_bytes}
 
 -- an entry for address 1 is right, and the same at each place of a table

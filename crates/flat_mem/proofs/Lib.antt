@@ -1,8 +1,10 @@
 pub mod Found
 pub mod Puts
-pub mod Runs
-pub mod Copies
+pub mod Pages
+pub mod Parts
 pub mod Numbers
-pub mod Built
-pub mod Apart
+pub mod Grown
 pub mod Keeping
+pub mod Apart
+pub mod Stack
+pub mod Readings

@@ -1,159 +1,166 @@
--- Stores: memory with other bytes is the same areas over the buffer with these bytes in their place.
-use Rattle.std.proofs.Common.{◌≡◌, ℕ, suc, ◌+◌, ◌-◌, ◌<◌, ◌≤◌, List, [], ◌∷◌, ◌++◌, Bool, true, false, cond, length}
-use Rattle.std.proofs.Common.{take, drop, set, refl, sym, ap, ◌∙◌, arith, length-set, length-append, length-take}
-use Rattle.std.proofs.Common.{length-drop, append_assoc}
-use Rattle.std.specs.Prelude.{Some, find, slice_set}
-use Rattle.std.proofs.lemmas.List.{append-nil, take-append-drop, drop-set-add, drop-set-lt, take-set-le, take_more_set}
-use Rattle.std.proofs.lemmas.List.{length-take-le}
-use Rattle.std.proofs.Math.Seq.{take-add, take-set-lt}
-use Rattle.machine_spec.specs.Memory.{Range}
+-- Stores: memory with other bytes is the same areas over a function with these bytes at their addresses.
+use Rattle.std.proofs.Common.{◌≡◌, ◌≢◌, ◌⊎◌, ℕ, ◌+◌, ◌-◌, ◌<◌, ◌≤◌, List, [], ◌∷◌, ◌++◌, Bool, true, false, cond}
+use Rattle.std.proofs.Common.{◌&&◌, length, map, refl, sym, ap, ◌∙◌, arith, inl, inr, get_or, AllPairs, set, length-set}
+use Rattle.std.proofs.Common.{get_or-set_same, get_or-set_other, length-append}
+use Rattle.std.specs.Prelude.{nat_eq, nat_le, nat_lt, slice_index, slice_set}
+use Rattle.std.specs.List.{range_with_len}
+use Rattle.std.proofs.lemmas.Bool.{cases_lt}
+use Rattle.std.proofs.lemmas.Bool.Decides.{nat_tests}
+use Rattle.std.proofs.lemmas.List.{get_or_append_left, get_or-append_right}
+use Rattle.std.proofs.lemmas.List.FromFn.{get_or-map-range_with_len, length-map-range_with_len}
+use Rattle.std.proofs.lemmas.Grind.{same_number_lists}
 use Rattle.flat_spec.specs.Stores.{put_byte, put_bytes}
 use Rattle.flat_mem.specs.declared.area.Area.{Area}
-use Rattle.flat_mem.specs.Areas.{has_address, range_in, ranges, written, FillsFrom, IsLaidOut}
-use Rattle.flat_mem.proofs.Found.{IsFound, found, stays, fills_end, part_length, has_bounds}
+use Rattle.flat_mem.specs.Areas.{byte_in, has_address, range_in, ranges, over, AreApart}
+use Rattle.flat_mem.proofs.Found.{has_bounds, has_from, ranges_same, map_same, others_apart, others_pairs, not_both}
 
--- a byte that is set outside a part leaves it
-part_before : (n place i b : ℕ) (bytes : List ℕ) → i < place
-    → take n (drop place (set bytes i b)) ≡ take n (drop place bytes)
-part_before n place i b bytes h = ap (take n) (drop-set-lt place bytes i b h)
+-- a piece over a function, at its addresses and elsewhere
+within : (a n k : ℕ) → a ≤ k → k < a + n → (nat_le a k && nat_lt k (a + n)) ≡ true
+within a n k low high = grind (arith, nat_tests)
 
-part_set : (n place k b : ℕ) (bytes : List ℕ) → k < n → take n (drop place (set bytes (place + k) b))
-    ≡ set (take n (drop place bytes)) k b
-part_set n place k b bytes h = rw drop-set-add (take-set-lt n (drop place bytes) k b h)
-
-part_behind : (n place k b : ℕ) (bytes : List ℕ) → n ≤ k → take n (drop place (set bytes (place + k) b))
-    ≡ take n (drop place bytes)
-part_behind n place k b bytes h = rw drop-set-add (take-set-le n (drop place bytes) k b h)
-
--- areas behind a byte that is set
-ranges_behind : (i b place : ℕ) (areas : List Area) (bytes : List ℕ) (end : ℕ) → FillsFrom place areas end → i < place
-    → ranges areas (set bytes i b) ≡ ranges areas bytes
-ranges_behind i b place [] bytes end h l = refl
-ranges_behind i b place (r ∷ rs) bytes end h l =
-    let p : r.place ≡ place = h.0 in
-    rw (
-      part_before r.size r.place i b bytes (omega (arith, p)),
-      ranges_behind i b (place + r.size) rs bytes end h.1
-          (omega arith),
-    ) refl
-
-pub put_byte_found : (a b place : ℕ) (areas : List Area) (bytes : List ℕ) (s : Area)
-    → FillsFrom place areas (length bytes)
-    → find (has_address a) areas ≡ Some s
-    → put_byte (ranges areas bytes) a b ≡ ranges areas (set bytes (s.place + (a - s.start)) b)
-put_byte_found a b place [] bytes s h e = refl
-put_byte_found a b place (r ∷ rs) bytes s h e =
-    let l : place + r.size ≤ length bytes = fills_end (place + r.size) rs (length bytes) h.1 in
-    let p : r.place ≡ place = h.0 in
-    let n : length (take r.size (drop r.place bytes)) ≡ r.size =
-    part_length r.size r.place bytes (omega (arith, p, l)) in
-    rw n (at (put_byte_found a b (place + r.size) rs bytes s h.1) (has_address a r) refl e)
+outside : (a n k : ℕ) → (k < a) ⊎ (a + n ≤ k) → (nat_le a k && nat_lt k (a + n)) ≡ false
+outside a n k (inl h) = grind (arith, nat_tests)
+outside a n k (inr h) = at (nat_le a k) (nat_lt k (a + n)) refl
   where
-    at : (find (has_address a) rs ≡ Some s → put_byte (ranges rs bytes) a b
-        ≡ ranges rs (set bytes (s.place + (a - s.start)) b)) → (v : Bool) → has_address a r ≡ v
-        → cond v (Some r) (find (has_address a) rs) ≡ Some s
-        → cond v (record (range_in bytes r) { bytes = slice_set (take r.size (drop r.place bytes)) (a - r.start) b }
-        ∷ ranges rs bytes) (range_in bytes r ∷ put_byte (ranges rs bytes) a b)
-        ≡ ranges (r ∷ rs) (set bytes (s.place + (a - s.start)) b)
-    at ih true d e =
-        let same : r ≡ s = cc in
-        let p : r.place ≡ place = h.0 in
-        let q : (r.start ≤ a) × (a < r.start + r.size) = has_bounds a r d in
-        let there : r.place + (a - r.start) ≡ s.place + (a - s.start) =
-        ap (λ (x : Area). x.place + (a - x.start)) same in
-        let part : take r.size (drop r.place (set bytes (r.place + (a - r.start)) b))
-        ≡ set (take r.size (drop r.place bytes)) (a - r.start) b =
-        part_set r.size r.place (a - r.start) b bytes (omega (arith, q.0, q.1)) in
-        let rest : ranges rs (set bytes (r.place + (a - r.start)) b) ≡ ranges rs bytes =
-        ranges_behind (r.place + (a - r.start)) b (place + r.size) rs bytes (length bytes) h.1
-        (omega (arith, p, q.0, q.1)) in
-        ap (λ xs. record { start = r.start; writable = r.writable; executable = r.executable; bytes = xs }
-        ∷ ranges rs bytes) (sym part)
-        ∙ (ap (λ more. range_in (set bytes (r.place + (a - r.start)) b) r ∷ more) (sym rest)
-        ∙ ap (λ i. ranges (r ∷ rs) (set bytes i b)) there)
-    at ih false d e =
-        let f : IsFound a (place + r.size) (length bytes) s = found a (place + r.size) rs (length bytes) s h.1 e in
-        let p : r.place ≡ place = h.0 in
-        let k : s.place + (a - s.start) ≡ r.place + (s.place + (a - s.start) - r.place) = omega (arith, f.behind, p) in
-        let same : take r.size (drop r.place (set bytes (s.place + (a - s.start)) b))
-        ≡ take r.size (drop r.place bytes) =
-        rw k (part_behind r.size r.place (s.place + (a - s.start) - r.place) b bytes (omega (arith, f.behind, p))) in
-        rw (same, ih e) refl
+    at : (v w : Bool) → nat_lt k (a + n) ≡ w → (v && w) ≡ false
+    at true w e = let q : nat_lt k (a + n) ≡ false = grind (arith, nat_tests) in sym e ∙ q
+    at false w e = refl
 
--- only the length of the buffer matters for how it is laid out
-pub laid_again : (areas : List Area) (bytes other : List ℕ) → IsLaidOut areas bytes → length other ≡ length bytes
-    → IsLaidOut areas other
-laid_again areas bytes other laid e = record { parts = rw e laid.parts; apart = laid.apart }
+pub over_in : (byte : ℕ → ℕ) (a : ℕ) (piece : List ℕ) (k : ℕ) → a ≤ k → k < a + length piece
+    → over byte a piece k ≡ slice_index piece (k - a)
+over_in byte a piece k low high = rw (within a (length piece) k low high) refl
 
--- bytes written one by one, and none
-written_none : (bytes : List ℕ) (p : ℕ) → written bytes p [] ≡ bytes
-written_none bytes p =
-    let z : p + 0 ≡ p = omega arith in
-    rw (z, append-nil) (take-append-drop p bytes)
+pub over_out : (byte : ℕ → ℕ) (a : ℕ) (piece : List ℕ) (k : ℕ) → (k < a) ⊎ (a + length piece ≤ k)
+    → over byte a piece k ≡ byte k
+over_out byte a piece k h = rw (outside a (length piece) k h) refl
 
-written_first : (bytes : List ℕ) (p b : ℕ) (bs : List ℕ) → p < length bytes
-    → written (set bytes p b) (p + 1) bs ≡ written bytes p (b ∷ bs)
-written_first bytes p b bs h =
-    let far : p + 1 + length bs ≡ p + suc (length bs) = omega arith in
-    let head : take (p + 1) (set bytes p b) ≡ take p bytes ++ b ∷ [] = take_more_set bytes p b h in
-    let rest : drop (p + suc (length bs)) (set bytes p b) ≡ drop (p + suc (length bs)) bytes =
-    drop-set-lt (p + suc (length bs)) bytes p b (omega arith) in
-    rw (far, head, rest) (ap (λ xs. xs ++ drop (p + suc (length bs)) bytes) (append_assoc (take p bytes) (b ∷ []) bs))
+pub over_none : (byte : ℕ → ℕ) (a k : ℕ) → over byte a [] k ≡ byte k
+over_none byte a k = at (cases_lt k a)
+  where
+    at : (k < a) ⊎ (a ≤ k) → over byte a [] k ≡ byte k
+    at (inl h) = over_out byte a [] k (inl h)
+    at (inr h) = let e : a + length {A = ℕ} [] ≤ k = omega (arith, h) in over_out byte a [] k (inr e)
 
-pub length-written : (bytes : List ℕ) (p : ℕ) (bs : List ℕ) → p + length bs ≤ length bytes
-    → length (written bytes p bs) ≡ length bytes
-length-written bytes p bs h =
-    omega (
-      arith,
-      length-append (take p bytes ++ bs) (drop (p + length bs) bytes),
-      length-append (take p bytes) bs,
-      length-take p bytes,
-      length-drop (p + length bs) bytes,
-    )
+pub over_again : (f g : ℕ → ℕ) (a : ℕ) (piece : List ℕ) (k : ℕ) → f k ≡ g k → over f a piece k ≡ over g a piece k
+over_again f g a piece k h = rw h refl
 
--- a piece that is stored in one area
-pub run_put : (a k : ℕ) (areas : List Area) (bytes bs : List ℕ) (s : Area) → IsLaidOut areas bytes
-    → find (has_address a) areas ≡ Some s
-    → s.start ≤ k → k + length bs ≤ s.start + s.size
-    → put_bytes (ranges areas bytes) k bs ≡ ranges areas (written bytes (s.place + (k - s.start)) bs)
-run_put a k areas bytes [] s laid e low high = ap (ranges areas) (sym (written_none bytes (s.place + (k - s.start))))
-run_put a k areas bytes (b ∷ bs) s laid e low high =
-    let there : find (has_address k) areas ≡ Some s = stays a k areas s laid.apart e low (omega arith) in
-    let f : IsFound k 0 (length bytes) s = found k 0 areas (length bytes) s laid.parts there in
-    let p : s.place + (k - s.start) < length bytes = omega (arith, f.low, f.high, f.inside) in
-    let next : s.place + (k + 1 - s.start) ≡ s.place + (k - s.start) + 1 = omega (arith, low) in
-    let again : IsLaidOut areas (set bytes (s.place + (k - s.start)) b) =
-    laid_again areas bytes (set bytes (s.place + (k - s.start)) b) laid
-    (length-set bytes (s.place + (k - s.start)) b) in
-    ap (λ m. put_bytes m (k + 1) bs) (put_byte_found k b 0 areas bytes s laid.parts there)
-    ∙ (run_put a (k + 1) areas (set bytes (s.place + (k - s.start)) b) bs s again e (omega arith) (omega arith)
-    ∙ ap (ranges areas) (ap (λ i. written (set bytes (s.place + (k - s.start)) b) i bs) next
-    ∙ written_first bytes (s.place + (k - s.start)) b bs p))
+-- the same directory and buffer under other names
+pub over_moved : (d e bytes buffer new : List ℕ) (a : ℕ) (piece : List ℕ) → e ≡ d → buffer ≡ bytes
+    → ((k : ℕ) → byte_in e new k ≡ over (byte_in e buffer) a piece k)
+    → (k : ℕ) → byte_in d new k ≡ over (byte_in d bytes) a piece k
+over_moved d e bytes buffer new a piece f g same k =
+    ap (λ x. byte_in x new k) (sym f) ∙ same k ∙ ap (λ x. over (byte_in x buffer) a piece k) f
+    ∙ ap (λ x. over (byte_in d x) a piece k) g
 
 -- a piece behind another
-pub put_more : (m : List Range) (a : ℕ) (xs ys : List ℕ) → put_bytes m a (xs ++ ys)
-    ≡ put_bytes (put_bytes m a xs) (a + length xs) ys
-put_more m a [] ys = let e : a + 0 ≡ a = omega arith in rw e refl
-put_more m a (x ∷ xs) ys =
-    let e : a + suc (length xs) ≡ a + 1 + length xs = omega arith in
-    rw e (put_more (put_byte m a x) (a + 1) xs ys)
+pub over_more : (byte : ℕ → ℕ) (a : ℕ) (xs ys : List ℕ) (k : ℕ)
+    → over (over byte a xs) (a + length xs) ys k ≡ over byte a (xs ++ ys) k
+over_more byte a xs ys k = at (cases_lt k a) (cases_lt k (a + length xs)) (cases_lt k (a + length xs + length ys))
+  where
+    n : length (xs ++ ys) ≡ length xs + length ys
+    n = length-append xs ys
 
--- one more part of a piece
-pub put_part : (m : List Range) (a done count : ℕ) (areas : List Area) (bytes other piece : List ℕ) (s : Area)
-    → IsLaidOut areas bytes
-    → ranges areas bytes ≡ put_bytes m a (take done piece) → find (has_address (a + done)) areas ≡ Some s
-    → a + done + count ≤ s.start + s.size → done + count ≤ length piece
-    → other ≡ written bytes (s.place + (a + done - s.start)) (take count (drop done piece))
-    → ranges areas other ≡ put_bytes m a (take (done + count) piece)
-put_part m a done count areas bytes other piece s laid so_far e h l w =
-    let f : IsFound (a + done) 0 (length bytes) s = found (a + done) 0 areas (length bytes) s laid.parts e in
-    let n : length (take count (drop done piece)) ≡ count = part_length count done piece l in
-    let first : length (take done piece) ≡ done = length-take-le done piece (omega arith) in
-    let run : put_bytes (ranges areas bytes) (a + done) (take count (drop done piece))
-    ≡ ranges areas (written bytes (s.place + (a + done - s.start)) (take count (drop done piece))) =
-    run_put (a + done) (a + done) areas bytes (take count (drop done piece)) s laid e (omega (arith, f.low))
-    (omega (arith, n, h)) in
-    ap (ranges areas) w ∙ (sym run ∙ (ap (λ x. put_bytes x (a + done) (take count (drop done piece))) so_far
-    ∙ (ap (λ i. put_bytes (put_bytes m a (take done piece)) (a + i) (take count (drop done piece))) (sym first)
-    ∙ (sym (put_more m a (take done piece) (take count (drop done piece)))
-    ∙ ap (put_bytes m a) (sym (take-add done count piece))))))
+    at : (k < a) ⊎ (a ≤ k) → (k < a + length xs) ⊎ (a + length xs ≤ k)
+        → (k < a + length xs + length ys) ⊎ (a + length xs + length ys ≤ k)
+        → over (over byte a xs) (a + length xs) ys k ≡ over byte a (xs ++ ys) k
+    at (inl h) q r =
+        over_out (over byte a xs) (a + length xs) ys k (inl (omega (arith, h))) ∙ over_out byte a xs k (inl h)
+        ∙ sym (over_out byte a (xs ++ ys) k (inl h))
+    at (inr h) (inl q) r =
+        over_out (over byte a xs) (a + length xs) ys k (inl q) ∙ over_in byte a xs k h q
+        ∙ sym (over_in byte a (xs ++ ys) k h (omega (arith, n, q))
+        ∙ get_or_append_left xs ys 0 (k - a) (omega (arith, h, q)))
+    at (inr h) (inr q) (inl r) =
+        let far : k - (a + length xs) ≡ k - a - length xs = omega (arith, h, q) in
+        over_in (over byte a xs) (a + length xs) ys k q r ∙ ap (slice_index ys) far
+        ∙ sym (over_in byte a (xs ++ ys) k h (omega (arith, n, r))
+        ∙ get_or-append_right xs ys (length xs) (k - a) 0 refl (omega (arith, h, q)))
+    at (inr h) (inr q) (inr r) =
+        over_out (over byte a xs) (a + length xs) ys k (inr r) ∙ over_out byte a xs k (inr q)
+        ∙ sym (over_out byte a (xs ++ ys) k (inr (omega (arith, n, r))))
+
+-- one byte
+unlike : (a k : ℕ) (s : Area) → has_address a s ≡ false → s.start ≤ k → k < s.start + s.size → k ≢ a
+unlike a k s e low high = λ same. not_both (has_address a s) (rw (← same) (has_from k s low high)) e
+
+pub over_other : (byte : ℕ → ℕ) (a b k : ℕ) → k ≢ a → over byte a (b ∷ []) k ≡ byte k
+over_other byte a b k h = at (cases_lt k a)
+  where
+    at : (k < a) ⊎ (a ≤ k) → over byte a (b ∷ []) k ≡ byte k
+    at (inl l) = over_out byte a (b ∷ []) k (inl l)
+    at (inr l) = over_out byte a (b ∷ []) k (inr (omega (arith, h, l)))
+
+pub over_same : (byte : ℕ → ℕ) (a b : ℕ) → over byte a (b ∷ []) a ≡ b
+over_same byte a b =
+    let z : a - a ≡ 0 = omega arith in
+    over_in byte a (b ∷ []) a (omega arith) (omega arith) ∙ ap (slice_index (b ∷ [])) z
+
+-- the bytes of the range that has the address
+set_over : (byte : ℕ → ℕ) (a b start size : ℕ) → start ≤ a → a < start + size
+    → map (over byte a (b ∷ [])) (range_with_len start size) ≡ set (map byte (range_with_len start size)) (a - start) b
+set_over byte a b start size low high =
+    same_number_lists _ _
+    (length-map-range_with_len (over byte a (b ∷ [])) start size
+    ∙ sym (length-set (map byte (range_with_len start size)) (a - start) b ∙ length-map-range_with_len byte start size))
+    (λ i l. each i (omega (arith, l, length-map-range_with_len (over byte a (b ∷ [])) start size)))
+  where
+    each : (i : ℕ) → i < size → get_or (map (over byte a (b ∷ [])) (range_with_len start size)) i 0
+        ≡ get_or (set (map byte (range_with_len start size)) (a - start) b) i 0
+    each i l = get_or-map-range_with_len (over byte a (b ∷ [])) start size i (start + i) 0 l refl
+        ∙ at (nat_eq i (a - start)) refl
+      where
+        at : (v : Bool) → nat_eq i (a - start) ≡ v → over byte a (b ∷ []) (start + i)
+            ≡ get_or (set (map byte (range_with_len start size)) (a - start) b) i 0
+        at true e =
+            let here : i ≡ a - start = grind (arith, nat_tests) in
+            let there : start + i ≡ a = omega (arith, here, low) in
+            rw (there, here) (over_same byte a b ∙ sym (get_or-set_same (map byte (range_with_len start size)) (a - start) b
+            0 (omega (arith, low, high, length-map-range_with_len byte start size))))
+        at false e =
+            let away : i ≢ a - start = grind (arith, nat_tests) in
+            let there : start + i ≢ a = omega (arith, away, low) in
+            over_other byte a b (start + i) there
+            ∙ sym (get_or-set_other (map byte (range_with_len start size)) (a - start) i b 0 away
+            ∙ get_or-map-range_with_len byte start size i (start + i) 0 l refl)
+
+pub put_byte_over : (byte : ℕ → ℕ) (a b : ℕ) (areas : List Area) → AllPairs AreApart areas
+    → put_byte (ranges byte areas) a b ≡ ranges (over byte a (b ∷ [])) areas
+put_byte_over byte a b [] h = refl
+put_byte_over byte a b (r ∷ rs) h =
+    rw (length-map-range_with_len byte r.start r.size)
+    (at (put_byte_over byte a b rs (others_pairs r rs h)) (has_address a r) refl)
+  where
+    at : put_byte (ranges byte rs) a b ≡ ranges (over byte a (b ∷ [])) rs → (v : Bool) → has_address a r ≡ v
+        → cond v (record (range_in byte r) {
+          bytes = slice_set (map byte (range_with_len r.start r.size)) (a - r.start) b;
+        } ∷ ranges byte rs) (range_in byte r ∷ put_byte (ranges byte rs) a b)
+        ≡ ranges (over byte a (b ∷ [])) (r ∷ rs)
+    at ih true e =
+        let q : (r.start ≤ a) × (a < r.start + r.size) = has_bounds a r e in
+        rw (
+          set_over byte a b r.start r.size q.0 q.1,
+          ← ranges_same byte (over byte a (b ∷ [])) rs (λ k t. sym (over_other byte a b k
+              (λ same. not_both (has_address a r) e (rw same at (others_apart r rs k h t))))),
+        ) refl
+    at ih false e =
+        rw (
+          ih,
+          ← map_same byte (over byte a (b ∷ [])) r.start r.size (λ k low high. sym (over_other byte a b k
+              (unlike a k r e low high))),
+        ) refl
+
+-- a piece
+pub put_bytes_over : (bs : List ℕ) (byte : ℕ → ℕ) (a : ℕ) (areas : List Area) → AllPairs AreApart areas
+    → put_bytes (ranges byte areas) a bs ≡ ranges (over byte a bs) areas
+put_bytes_over [] byte a areas h = ranges_same byte (over byte a []) areas (λ k t. sym (over_none byte a k))
+put_bytes_over (b ∷ bs) byte a areas h =
+    ap (λ m. put_bytes m (a + 1) bs) (put_byte_over byte a b areas h)
+    ∙ put_bytes_over bs (over byte a (b ∷ [])) (a + 1) areas h
+    ∙ ranges_same (over (over byte a (b ∷ [])) (a + 1) bs) (over byte a (b ∷ bs)) areas
+    (λ k t. over_more byte a (b ∷ []) bs k)
+
+-- so the ranges after a store are those of any function that agrees with it
+pub put_is : (bs : List ℕ) (byte other : ℕ → ℕ) (a : ℕ) (areas : List Area) → AllPairs AreApart areas
+    → ((k : ℕ) → other k ≡ over byte a bs k) → ranges other areas ≡ put_bytes (ranges byte areas) a bs
+put_is bs byte other a areas h same =
+    ranges_same other (over byte a bs) areas (λ k t. same k) ∙ sym (put_bytes_over bs byte a areas h)

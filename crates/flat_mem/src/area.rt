@@ -1,10 +1,10 @@
-// The areas of memory: which addresses they have, what may be done there and where their bytes stand.
+// The areas of memory: which addresses they have and what may be done there, as flags beside each byte.
 
-ghost use Rattle.std.specs.Prelude.{◌≡◌, ℕ, ◌+◌, ◌-◌, ◌<◌, ◌^◌, List, true, find, min};
-ghost use Rattle.machine_spec.specs.Memory.{all_from, range_at};
-ghost use Rattle.flat_mem.specs.Areas.{allows, area_allows, has_address, ranges, IsLaidOut};
+ghost use Rattle.std.specs.Prelude.{◌≡◌, ◌<◌, Some, replicate};
+ghost use Rattle.machine_spec.specs.Widths.{number_of, size_of};
+ghost use Rattle.flat_mem.specs.Areas.{flag_of, rights_of};
 
-use machine_spec::all_addresses_pass_where_each_does;
+use rv_isa::Width;
 
 /// What is done with a byte of memory.
 #[derive(Clone, Copy, Debug)]
@@ -15,81 +15,48 @@ pub enum Access {
     Fetch,
 }
 
-/// A range of addresses whose bytes stand in the buffer from `place` on.
+/// A range of addresses.
 #[derive(Clone, Copy, Debug)]
 pub struct Area {
     pub start: u32,
     pub size: u32,
-    pub place: usize,
     pub writable: bool,
     pub executable: bool,
 }
 
 impl Area {
-    /// The address behind the last one.
-    pub fn end(&self) -> usize
-        ensures { result ≡ self.now.start + self.now.size }
+    /// The flags of the accesses that its bytes allow.
+    pub fn rights(&self) -> u8
+        ensures { result ≡ rights_of (Some self.now) }
     {
-        self.start as usize + self.size as usize
-    }
-
-    /// Whether an address is in it.
-    pub fn has(&self, addr: usize) -> bool
-        ensures { result ≡ has_address addr self.now }
-    {
-        self.start as usize <= addr && addr < self.end()
-    }
-
-    /// Whether its bytes allow an access.
-    pub fn allows(&self, access: Access) -> bool
-        ensures { result ≡ area_allows access self.now }
-    {
-        match access {
-            Access::Load => true,
-            Access::Store => self.writable,
-            Access::Fetch => self.executable,
-        }
-    }
-
-    /// Where the byte at an address stands in the buffer.
-    pub fn place_of(&self, addr: usize) -> usize
-        requires has { has_address addr self.now ≡ true }
-        requires fits { self.now.place + self.now.size < 2 ^ 64 }
-        ensures { result ≡ self.now.place + (addr - self.now.start) }
-    {
-        self.place + (addr - self.start as usize)
-    }
-
-    /// How many of `most` bytes from an address on it has.
-    pub fn count_from(&self, addr: usize, most: usize) -> usize
-        requires { has_address addr self.now ≡ true }
-        ensures { result ≡ min (self.now.start + self.now.size - addr) most }
-    {
-        let left = self.end() - addr;
-        if left < most { left } else { most }
+        let store = if self.writable { 2 } else { 0 };
+        let fetch = if self.executable { 4 } else { 0 };
+        1 + store + fetch
     }
 }
 
-/// The area at an address.
-pub fn area_at(areas: &[Area], addr: usize) -> Option<Area>
-    ensures { result ≡ find (has_address addr) areas.now }
+/// The flag of an access.
+#[inline(always)]
+fn flag(access: Access) -> u32
+    ensures is { result ≡ flag_of access }
+    ensures small { result < 5 }
 {
-    areas.iter().copied().find(|area| area.has(addr))
+    match access {
+        Access::Load => 1,
+        Access::Store => 2,
+        Access::Fetch => 4,
+    }
 }
 
-/// Whether each of `len` addresses from one on allows an access.
-pub fn allows_all(areas: &[Area], access: Access, addr: u32, len: u32) -> bool
-    ensures { (bytes : List ℕ) → IsLaidOut areas.now bytes → result
-        ≡ all_from (λ k. allows access (range_at (ranges areas.now bytes) k)) addr len }
+/// The flags of an access, one for each byte of a number.
+#[inline(always)]
+pub fn flags(access: Access, width: Width) -> u32
+    ensures { result ≡ number_of (replicate (size_of width) (flag_of access)) }
 {
-    all_addresses_pass_where_each_does();
-    let end = addr as usize + len as usize;
-    let mut at = addr as usize;
-    while at < end {
-        match area_at(areas, at) {
-            Some(area) if area.allows(access) => at = area.end(),
-            _ => return false,
-        }
+    let once = flag(access);
+    match width {
+        Width::Byte | Width::ByteU => once,
+        Width::Half | Width::HalfU => once * 0x101,
+        Width::Word => once * 0x0101_0101,
     }
-    true
 }

@@ -2,9 +2,9 @@
 // their bytes, with loads, stores and fetches of code, whose words are kept decoded.
 #![tactic(auto)]
 
-mod accesses;
 mod area;
 mod decoding;
+mod directory;
 mod loading;
 mod memory;
 mod pieces;

@@ -1,12 +1,10 @@
-// Pieces of memory, read and written whole: one copy for each area that they reach into.
+// Pieces of memory, read and written whole: one copy for each page that they reach into.
 
-ghost use Rattle.std.specs.Prelude.{◌≡◌, ◌+◌, ◌^◌, ◌<◌, ◌≤◌, true, length, take, drop, Some, is_some};
-ghost use Rattle.flat_spec.specs.Stores.{bytes_from, can_store, put_bytes};
-ghost use Rattle.flat_mem.specs.Areas.{ranges, written, IsLaidOut};
+ghost use Rattle.std.specs.Prelude.{◌≡◌, ◌+◌, ◌/◌, ◌^◌, ◌<◌, ◌≤◌, ℕ, length, map, replicate, take, drop};
+ghost use Rattle.std.specs.List.{range_with_len};
+ghost use Rattle.flat_mem.specs.Areas.{byte_in, over, page_at, written, IsDirectory};
 
-use crate::area::{Area, area_at};
-use flat_spec::{bytes_are_read_where_they_stand, ranges_say_what_may_be_accessed};
-use machine_spec::all_addresses_pass_where_each_does;
+use crate::directory::{PAGE_SIZE, count_in_page, place_in};
 
 /// Some bytes of a buffer.
 fn part(bytes: &[u8], place: usize, count: usize) -> &[u8]
@@ -24,45 +22,54 @@ fn write(bytes: &mut [u8], place: usize, part: &[u8])
     bytes[place..place + part.len()].copy_from_slice(part);
 }
 
-/// Copies the bytes from an address on, which must be in memory.
-pub fn copy_in(areas: &[Area], bytes: &[u8], addr: usize, into: &mut [u8])
-    requires laid { IsLaidOut areas.now bytes.now }
-    requires low { addr < 2 ^ 33 }
-    requires there { is_some (bytes_from (ranges areas.now bytes.now) addr (length into.old)) ≡ true }
-    ensures { bytes_from (ranges areas.now bytes.now) addr (length into.old) ≡ Some into.new }
+/// Copies what stands for the addresses from one on.
+pub fn copy_in(directory: &[u32], bytes: &[u8], addr: u32, into: &mut [u8])
+    requires directs { IsDirectory directory.now (length bytes.now / 4096) }
+    requires end { addr + length into.old ≤ 2 ^ 32 }
+    ensures { into.new ≡ map (byte_in directory.now bytes.now) (range_with_len addr (length into.old)) }
 {
-    all_addresses_pass_where_each_does();
-    bytes_are_read_where_they_stand();
-    ranges_say_what_may_be_accessed();
     let mut done = 0;
     while done < into.len() {
-        let at = addr + done;
-        let Some(area) = area_at(areas, at) else {
-            return;
-        };
-        let count = area.count_from(at, into.len() - done);
-        write(into, done, part(bytes, area.place_of(at), count));
+        let at = addr + done as u32;
+        let count = count_in_page(at, into.len() - done);
+        write(into, done, part(bytes, place_in(directory, at), count));
         done += count;
     }
 }
 
-/// Stores a piece from an address on, where all of it can be stored.
-pub fn put_in(areas: &[Area], bytes: &mut [u8], addr: usize, piece: &[u8])
-    requires laid { IsLaidOut areas.now bytes.old }
-    requires low { addr < 2 ^ 33 }
-    requires storable { can_store (ranges areas.now bytes.old) addr (length piece.now) ≡ true }
-    ensures memory { ranges areas.now bytes.new ≡ put_bytes (ranges areas.now bytes.old) addr piece.now }
-    ensures laid { IsLaidOut areas.now bytes.new }
+/// Puts a piece in the place of what stands for the addresses from one on, which must have pages.
+pub fn put_in(directory: &[u32], bytes: &mut [u8], addr: u32, piece: &[u8])
+    requires directs { IsDirectory directory.now (length bytes.old / 4096) }
+    requires end { addr + length piece.now ≤ 2 ^ 32 }
+    requires there { (a : ℕ) → addr ≤ a → a < addr + length piece.now → 0 < page_at directory.now a }
+    ensures long { length bytes.new ≡ length bytes.old }
+    ensures bytes { (a : ℕ) → byte_in directory.now bytes.new a
+        ≡ over (byte_in directory.now bytes.old) addr piece.now a }
 {
-    all_addresses_pass_where_each_does();
     let mut done = 0;
     while done < piece.len() {
-        let at = addr + done;
-        let Some(area) = area_at(areas, at) else {
-            return;
-        };
-        let count = area.count_from(at, piece.len() - done);
-        write(bytes, area.place_of(at), part(piece, done, count));
+        let at = addr + done as u32;
+        let count = count_in_page(at, piece.len() - done);
+        write(bytes, place_in(directory, at), part(piece, done, count));
+        done += count;
+    }
+}
+
+/// Puts the same byte there so many times.
+pub fn fill_in(directory: &[u32], bytes: &mut [u8], addr: u32, size: u32, byte: u8)
+    requires directs { IsDirectory directory.now (length bytes.old / 4096) }
+    requires end { addr + size ≤ 2 ^ 32 }
+    requires there { (a : ℕ) → addr ≤ a → a < addr + size → 0 < page_at directory.now a }
+    ensures long { length bytes.new ≡ length bytes.old }
+    ensures bytes { (a : ℕ) → byte_in directory.now bytes.new a
+        ≡ over (byte_in directory.now bytes.old) addr (replicate size byte) a }
+{
+    let page = [byte; PAGE_SIZE];
+    let mut done = 0;
+    while done < size {
+        let left = size - done;
+        let count = if left < 4096 { left } else { 4096 };
+        put_in(directory, bytes, addr + done, &page[..count as usize]);
         done += count;
     }
 }

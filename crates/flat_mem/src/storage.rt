@@ -1,15 +1,20 @@
-// Where memory stands: a list of areas and a buffer of their bytes, with the accesses to it.
+// Where memory stands: pages of 4096 bytes, with the flags of what may be done beside each byte, and a directory
+// of the pages by address.
 
-ghost use Rattle.std.specs.Prelude.{◌≡◌, ◌+◌, true, length, Some, is_some, if◌then◌else◌};
-ghost use Rattle.machine_spec.specs.Memory.{byte_of, range_at};
+ghost use Rattle.std.specs.Prelude.{◌≡◌, ◌+◌, ◌%◌, true, length, Some, is_some, if◌then◌else◌};
+ghost use Rattle.machine_spec.specs.Memory.{all_from, byte_of, range_at};
+ghost use Rattle.machine_spec.specs.Widths.{size_of};
 ghost use Rattle.flat_spec.specs.Stores.{allows_store, bytes_from, can_store, fetched, loaded, put_byte, put_bytes};
 ghost use Rattle.flat_spec.specs.Stores.{stored};
-ghost use Rattle.flat_mem.specs.Areas.{ranges, IsLaidOut};
+ghost use Rattle.flat_mem.specs.Areas.{allows, byte_in, ranges, IsPaged};
 ghost use Rattle.flat_mem.specs.Calls.{Stores};
 
-use crate::accesses::{fetch_in, get_in, holds_in, load_in, set_in, store_in};
-use crate::area::{Access, Area, allows_all};
+use crate::area::{Access, Area, flags};
+use crate::directory::place_in;
 use crate::pieces::{copy_in, put_in};
+use crate::words::{loaded_as, number_at, size_of, write_number};
+use flat_spec::{bytes_are_read_where_they_stand, ranges_say_what_may_be_accessed};
+use machine_spec::all_addresses_pass_where_each_does;
 use rv_isa::Width;
 use std::marker::Model;
 
@@ -18,7 +23,9 @@ use std::marker::Model;
 #[derive(Debug, Drop)]
 pub struct Storage {
     areas: Vec<Area>,
+    directory: Vec<u32>,
     bytes: Vec<u8>,
+    rights: Vec<u8>,
 }
 
 impl Model for Storage {
@@ -27,27 +34,69 @@ impl Model for Storage {
 
     ghost Value = { List Range };
 
-    ghost use Rattle.flat_mem.specs.Areas.{ranges, IsLaidOut};
+    ghost use Rattle.flat_mem.specs.Areas.{byte_in, ranges, IsPaged};
 
-    ghost view = { λ m. ranges m.areas.items m.bytes.items };
+    ghost view = { λ m. ranges (byte_in m.directory.items m.bytes.items) m.areas.items };
 
-    ghost invariant = { λ m. IsLaidOut m.areas.items m.bytes.items };
+    ghost invariant = { λ m. IsPaged m.areas.items m.directory.items m.bytes.items m.rights.items };
 }
 
 impl Storage {
-    /// Memory whose areas stand in a buffer of their bytes.
-    pub(crate) fn new(areas: Vec<Area>, bytes: Vec<u8>) -> Storage
-        requires { IsLaidOut areas.items bytes.items }
-        ensures { result ≡ ranges areas.items bytes.items }
+    /// Memory whose areas stand in pages.
+    pub(crate) fn new(
+        areas: Vec<Area>,
+        directory: Vec<u32>,
+        bytes: Vec<u8>,
+        rights: Vec<u8>,
+    ) -> Storage
+        requires { IsPaged areas.items directory.items bytes.items rights.items }
+        ensures { result ≡ ranges (byte_in directory.items bytes.items) areas.items }
     {
-        Storage { areas, bytes }
+        Storage {
+            areas,
+            directory,
+            bytes,
+            rights,
+        }
+    }
+
+    /// Whether each byte of a number at an aligned address allows an access.
+    #[inline(always)]
+    fn allows(&self, access: Access, width: Width, addr: u32) -> bool
+        requires { addr % size_of width ≡ 0 }
+        ensures { result ≡ all_from (λ k. allows access (range_at self.now k)) addr (size_of width) }
+    {
+        let wanted = flags(access, width);
+        number_at(&self.rights, place_in(&self.directory, addr), width) & wanted == wanted
+    }
+
+    /// Whether each of `len` addresses from one on allows an access.
+    fn allows_all(&self, access: Access, addr: u32, len: u32) -> bool
+        ensures { result ≡ all_from (λ k. allows access (range_at self.now k)) addr len }
+    {
+        let _ = &self.areas;
+        let mut done = 0;
+        while done < len {
+            let Some(at) = addr.checked_add(done) else {
+                return false;
+            };
+            if !self.allows(access, Width::Byte, at) {
+                return false;
+            }
+            done += 1;
+        }
+        true
     }
 
     /// The byte at an address; none exactly outside memory.
     pub fn get(&self, addr: u32) -> Option<u8>
         ensures { result ≡ byte_of self.now addr }
     {
-        get_in(&self.areas, &self.bytes, addr)
+        ranges_say_what_may_be_accessed();
+        if !self.allows(Access::Load, Width::Byte, addr) {
+            return None;
+        }
+        Some(self.bytes[place_in(&self.directory, addr)])
     }
 
     /// Stores a byte. False exactly where the address is outside memory or in a range that can't be
@@ -56,7 +105,11 @@ impl Storage {
         ensures answer { result ≡ allows_store (range_at self.old addr) }
         ensures memory { self.new ≡ (if result then put_byte self.old addr byte else self.old) }
     {
-        set_in(&self.areas, &mut self.bytes, addr, byte)
+        if !self.allows(Access::Store, Width::Byte, addr) {
+            return false;
+        }
+        put_in(&self.directory, &mut self.bytes, addr, &[byte]);
+        true
     }
 
     /// The word of code at an address, lowest byte first; none exactly where the address is no multiple
@@ -64,7 +117,14 @@ impl Storage {
     pub fn fetch(&self, addr: u32) -> Option<u32>
         ensures { result ≡ fetched self.now addr }
     {
-        fetch_in(&self.areas, &self.bytes, addr)
+        if addr % 4 != 0 {
+            return None;
+        }
+        if !self.allows(Access::Fetch, Width::Word, addr) {
+            return None;
+        }
+        let place = place_in(&self.directory, addr);
+        Some(number_at(&self.bytes, place, Width::Word))
     }
 
     /// What a load of this width makes of the bytes at an address; none exactly where the address is no
@@ -72,7 +132,15 @@ impl Storage {
     pub fn load_number(&self, width: Width, addr: u32) -> Option<u32>
         ensures { result ≡ loaded self.now width addr }
     {
-        load_in(&self.areas, &self.bytes, width, addr)
+        ranges_say_what_may_be_accessed();
+        if addr % size_of(width) != 0 {
+            return None;
+        }
+        if !self.allows(Access::Load, width, addr) {
+            return None;
+        }
+        let number = number_at(&self.bytes, place_in(&self.directory, addr), width);
+        Some(loaded_as(width, number))
     }
 
     /// Stores the lowest bytes of a value. False exactly where the address is no multiple of the width
@@ -80,21 +148,30 @@ impl Storage {
     pub fn store_number(&mut self, width: Width, addr: u32, value: u32) -> bool
         ensures { Stores result (stored self.old width addr value) self.old self.new }
     {
-        store_in(&self.areas, &mut self.bytes, width, addr, value)
+        if addr % size_of(width) != 0 {
+            return false;
+        }
+        if !self.allows(Access::Store, width, addr) {
+            return false;
+        }
+        let place = place_in(&self.directory, addr);
+        write_number(&mut self.bytes, place, width, value);
+        true
     }
 
     /// Whether each of `len` addresses from one on can be stored to.
     pub fn can_store(&self, addr: u32, len: u32) -> bool
         ensures { result ≡ can_store self.now addr len }
     {
-        allows_all(&self.areas, Access::Store, addr, len)
+        self.allows_all(Access::Store, addr, len)
     }
 
     /// Whether each of `len` addresses from one on is in memory.
     pub fn holds(&self, addr: u32, len: u32) -> bool
         ensures { result ≡ is_some (bytes_from self.now addr len) }
     {
-        holds_in(&self.areas, addr, len)
+        ranges_say_what_may_be_accessed();
+        self.allows_all(Access::Load, addr, len)
     }
 
     /// Copies the bytes from byte `from` of a buffer at an address on, as many as `into` has.
@@ -102,12 +179,11 @@ impl Storage {
         requires { is_some (bytes_from self.now (addr + from) (length into.old)) ≡ true }
         ensures { bytes_from self.now (addr + from) (length into.old) ≡ Some into.new }
     {
-        copy_in(
-            &self.areas,
-            &self.bytes,
-            addr as usize + from as usize,
-            into,
-        )
+        ranges_say_what_may_be_accessed();
+        if into.is_empty() {
+            return;
+        }
+        copy_in(&self.directory, &self.bytes, addr + from, into);
     }
 
     /// Stores bytes from byte `from` of a buffer at an address on.
@@ -115,11 +191,9 @@ impl Storage {
         requires { can_store self.old (addr + from) (length bytes.now) ≡ true }
         ensures { self.new ≡ put_bytes self.old (addr + from) bytes.now }
     {
-        put_in(
-            &self.areas,
-            &mut self.bytes,
-            addr as usize + from as usize,
-            bytes,
-        )
+        if bytes.is_empty() {
+            return;
+        }
+        put_in(&self.directory, &mut self.bytes, addr + from, bytes);
     }
 }

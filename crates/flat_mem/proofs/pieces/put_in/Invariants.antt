@@ -1,14 +1,14 @@
 -- The bytes so far are stored.
-use Rattle.std.proofs.Common.{◌≡◌, ◌-◌, ◌≤◌, length, take}
-use Rattle.flat_spec.specs.Stores.{put_bytes}
-use Rattle.flat_mem.specs.Areas.{ranges}
+use Rattle.std.proofs.Common.{◌≡◌, ℕ, ◌-◌, ◌≤◌, length, take}
+use Rattle.flat_mem.specs.Areas.{byte_in, over}
 use Rattle.flat_mem.proofs.pieces.put_in.Given as goal
 
 abbrev pub invariant-loop-done : goal.invariant-loop-done
 invariant-loop-done l = record {
   inside : l.done ≤ length l.piece;
   long : length l.bytes ≡ length l.fn.bytes;
-  stored : ranges l.areas l.bytes ≡ put_bytes (ranges l.areas l.fn.bytes) l.addr (take l.done l.piece);
+  stored : (a : ℕ) → byte_in l.directory l.bytes a
+      ≡ over (byte_in l.directory l.fn.bytes) l.addr (take l.done l.piece) a;
 }
 
 abbrev pub decreases-loop-done : goal.decreases-loop-done
