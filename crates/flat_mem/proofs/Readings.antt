@@ -79,15 +79,32 @@ none_behind areas d bytes rights access a n h high some =
     at false e = refl
     at true e = absurd (omega (arith, all_end areas d bytes rights access a n h e some, high, some))
 
--- one more address
-pub one_passed : (test : ℕ → Bool) (a b done len : ℕ) → done < len → b ≡ a + done → all_from test b 1 ≡ true
-    → all_from test (a + done) (len - done) ≡ all_from test (a + (done + 1)) (len - (done + 1))
-one_passed test a b done len l e h =
-    let left : len - done ≡ suc (len - (done + 1)) = omega (arith, l) in
-    let far : a + done + 1 ≡ a + (done + 1) = omega arith in
-    let here : test (a + done) ≡ true = and_first (test (a + done)) true (rw e at h) in
-    rw left (ap (λ b. b && all_from test (a + done + 1) (len - (done + 1))) here
-    ∙ ap (λ i. all_from test i (len - (done + 1))) far)
+-- some addresses of those that are left
+passes_split : (test : ℕ → Bool) (a n m : ℕ) → all_from test a (n + m) ≡ (all_from test a n && all_from test (a + n) m)
+passes_split test a zero m =
+    let here : a + 0 ≡ a = omega arith in
+    let none : 0 + m ≡ m = omega arith in
+    rw (here, none) refl
+passes_split test a (suc n) m =
+    let more : suc n + m ≡ suc (n + m) = omega arith in
+    let far : a + suc n ≡ a + 1 + n = omega arith in
+    rw (more, far) (ap (λ b. test a && b) (passes_split test (a + 1) n m)
+    ∙ sym (and_assoc (test a) (all_from test (a + 1) n) (all_from test (a + 1 + n) m)))
+  where
+    and_assoc : (p q r : Bool) → ((p && q) && r) ≡ (p && (q && r))
+    and_assoc true q r = refl
+    and_assoc false q r = refl
+
+pub some_left : (test : ℕ → Bool) (a b done n len : ℕ) (v : Bool) → done + n ≤ len → b ≡ a + done
+    → all_from test b n ≡ v
+    → all_from test (a + done) (len - done) ≡ (v && all_from test (a + (done + n)) (len - (done + n)))
+some_left test a b done n len v l e h =
+    let left : len - done ≡ n + (len - (done + n)) = omega (arith, l) in
+    let far : a + done + n ≡ a + (done + n) = omega arith in
+    let here : all_from test (a + done) n ≡ v = rw e at h in
+    rw left (passes_split test (a + done) n (len - (done + n))
+    ∙ ap (λ b. b && all_from test (a + done + n) (len - (done + n))) here
+    ∙ ap (λ i. v && all_from test i (len - (done + n))) far)
 
 -- a number
 pub number_is : (areas : List Area) (d bytes rights : List ℕ) (access : Access) (width : Width) (a p n : ℕ)

@@ -12,7 +12,7 @@ ghost use Rattle.flat_mem.specs.Calls.{Stores};
 use crate::area::{Access, Area, flags};
 use crate::directory::place_in;
 use crate::pieces::{copy_in, put_in};
-use crate::words::{loaded_as, number_at, size_of, write_number};
+use crate::words::{loaded_as, number_at, size_of, width_at, write_number};
 use flat_spec::{bytes_are_read_where_they_stand, ranges_say_what_may_be_accessed};
 use machine_spec::all_addresses_pass_where_each_does;
 use rv_isa::Width;
@@ -80,10 +80,11 @@ impl Storage {
             let Some(at) = addr.checked_add(done) else {
                 return false;
             };
-            if !self.allows(access, Width::Byte, at) {
+            let width = width_at(at, len - done);
+            if !self.allows(access, width, at) {
                 return false;
             }
-            done += 1;
+            done += size_of(width);
         }
         true
     }

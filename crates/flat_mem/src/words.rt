@@ -1,6 +1,6 @@
 // Numbers in a buffer, lowest byte first.
 
-ghost use Rattle.std.specs.Prelude.{◌≡◌, ◌+◌, ◌*◌, ◌≤◌, ◌<◌, ◌^◌, length, take, drop};
+ghost use Rattle.std.specs.Prelude.{◌≡◌, ◌+◌, ◌*◌, ◌%◌, ◌≤◌, ◌<◌, ◌^◌, length, take, drop};
 ghost use Rattle.machine_spec.specs.Widths.{loaded_as, low_bytes, number_of, size_of};
 ghost use Rattle.flat_mem.specs.Areas.{written};
 
@@ -15,6 +15,20 @@ pub fn size_of(width: Width) -> u32
         Width::Byte | Width::ByteU => 1,
         Width::Half | Width::HalfU => 2,
         Width::Word => 4,
+    }
+}
+
+/// How the next of some bytes from an address on are looked at: a word, or one byte.
+pub fn width_at(addr: u32, most: u32) -> Width
+    requires { 0 < most }
+    ensures aligned { addr % size_of result ≡ 0 }
+    ensures fits { size_of result ≤ most }
+    ensures some { 0 < size_of result }
+{
+    if addr % 4 == 0 && 4 <= most {
+        Width::Word
+    } else {
+        Width::Byte
     }
 }
 
