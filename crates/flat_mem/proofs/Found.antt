@@ -106,8 +106,8 @@ first_apart r [] k h t = absurd (cc)
 first_apart r (s ∷ ss) k h t =
     at (first_apart r ss k (λ j d l. h (suc j) d (omega arith))) (has_address k s) refl t
   where
-    at : (is_some (area_of ss k) ≡ true → has_address k r ≡ false) → (v : Bool) → has_address k s ≡ v → is_some (cond v (Some s) (area_of ss k)) ≡ true
-        → has_address k r ≡ false
+    at : (is_some (area_of ss k) ≡ true → has_address k r ≡ false) → (v : Bool) → has_address k s ≡ v
+        → is_some (cond v (Some s) (area_of ss k)) ≡ true → has_address k r ≡ false
     at ih true e t = apart_has k r s (h 0 s (omega arith)) e
     at ih false e t = ih t
 

@@ -1,13 +1,15 @@
 -- Memory that gets one more area: what stands for the other addresses stays.
 use Rattle.std.proofs.Common.{◌≡◌, ◌≢◌, ◌⊎◌, ℕ, ◌+◌, ◌*◌, ◌-◌, ◌/◌, ◌%◌, ◌<◌, ◌≤◌, List, [], ◌∷◌, ◌++◌, Bool}
-use Rattle.std.proofs.Common.{true, false, cond, length, map, replicate, refl, sym, ap, ◌∙◌, arith, inl, inr, get_or, set}
+use Rattle.std.proofs.Common.{true, false, cond, length, map, replicate, refl, sym, ap, ◌∙◌, arith, inl, inr, get_or}
+use Rattle.std.proofs.Common.{set}
 use Rattle.std.proofs.Common.{take, length-append, length-set, get_or-set_same, get_or-set_other}
 use Rattle.std.specs.List.{All, range_with_len}
 use Rattle.std.specs.Prelude.{Option, Some, None, is_some, slice_index, nat_eq}
 use Rattle.std.specs.Option.{option_or}
 use Rattle.std.proofs.lemmas.Bool.{cases_lt}
 use Rattle.std.proofs.lemmas.Bool.Decides.{nat_tests}
-use Rattle.std.proofs.lemmas.List.{get_or_append_left, get_or-append_right, get_or-replicate, get_or_past, length-replicate}
+use Rattle.std.proofs.lemmas.List.{get_or_append_left, get_or-append_right, get_or-replicate, get_or_past}
+use Rattle.std.proofs.lemmas.List.{length-replicate}
 use Rattle.std.proofs.lemmas.List.{map-append, take_all}
 use Rattle.std.proofs.lemmas.List.Folds.{find-append}
 use Rattle.std.proofs.lemmas.List.Elements.{All-head, All-tail}
@@ -81,7 +83,9 @@ entry_kept old d count p l none h n some = at (set_entry d p count n l)
     at : ((n ≡ p) × (slice_index (set d p count) n ≡ count))
         ⊎ ((n ≢ p) × (slice_index (set d p count) n ≡ slice_index d n))
         → slice_index (set d p count) n ≡ slice_index old n
-    at (inl (e, f)) = let zero_there : slice_index d n ≡ 0 = rw e none in absurd (omega (arith, h n some, zero_there, some))
+    at (inl (e, f)) =
+        let zero_there : slice_index d n ≡ 0 = rw e none in
+        absurd (omega (arith, h n some, zero_there, some))
     at (inr (e, f)) = f ∙ h n some
 
 pub entry_fresh : (old d : List ℕ) (pages count p : ℕ) → p < length d → pages ≤ count

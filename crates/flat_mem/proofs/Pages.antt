@@ -54,7 +54,8 @@ written_there bytes p piece i h l =
     length-append (take p bytes) piece in
     let k : p + i - length (take p bytes) ≡ i = omega (arith, n) in
     get_or_append_left (take p bytes ++ piece) (drop (p + length piece) bytes) 0 (p + i) (omega (arith, n, m, l))
-    ∙ get_or-append_right (take p bytes) piece (length (take p bytes)) (p + i) 0 refl (omega (arith, n)) ∙ ap (λ j. get_or piece j 0) k
+    ∙ get_or-append_right (take p bytes) piece (length (take p bytes)) (p + i) 0 refl (omega (arith, n))
+    ∙ ap (λ j. get_or piece j 0) k
 
 written_behind : (bytes : List ℕ) (p : ℕ) (piece : List ℕ) (j : ℕ) → p + length piece ≤ length bytes
     → p + length piece ≤ j → get_or (written bytes p piece) j 0 ≡ get_or bytes j 0

@@ -1,8 +1,10 @@
 -- Pieces that are copied and stored page by page: one more page's part.
-use Rattle.std.proofs.Common.{◌≡◌, ℕ, zero, suc, ◌+◌, ◌/◌, ◌%◌, ◌<◌, ◌≤◌, List, ◌++◌, length, map, take, drop, replicate, ◌∷◌}
+use Rattle.std.proofs.Common.{◌≡◌, ℕ, zero, suc, ◌+◌, ◌/◌, ◌%◌, ◌<◌, ◌≤◌, List, ◌++◌, length, map, take, drop}
+use Rattle.std.proofs.Common.{replicate, ◌∷◌}
 use Rattle.std.proofs.Common.{refl, sym, ap, ◌∙◌, arith, length-append}
 use Rattle.std.specs.List.{range_with_len}
-use Rattle.std.proofs.lemmas.List.{length-replicate, length-take-le, take_at, take-replicate, replicate-append-replicate}
+use Rattle.std.proofs.lemmas.List.{length-replicate, length-take-le, take_at, take-replicate}
+use Rattle.std.proofs.lemmas.List.{replicate-append-replicate}
 use Rattle.std.proofs.lemmas.List.FromFn.{length-map-range_with_len}
 use Rattle.flat_mem.specs.Areas.{byte_in, over, page_at, place, written, IsDirectory}
 use Rattle.flat_mem.proofs.Pages.{part_is, written_over}

@@ -114,7 +114,8 @@ set_over byte a b start size low high =
         at true e =
             let here : i ≡ a - start = grind (arith, nat_tests) in
             let there : start + i ≡ a = omega (arith, here, low) in
-            rw (there, here) (over_same byte a b ∙ sym (get_or-set_same (map byte (range_with_len start size)) (a - start) b
+            rw (there, here) (over_same byte a b
+            ∙ sym (get_or-set_same (map byte (range_with_len start size)) (a - start) b
             0 (omega (arith, low, high, length-map-range_with_len byte start size))))
         at false e =
             let away : i ≢ a - start = grind (arith, nat_tests) in

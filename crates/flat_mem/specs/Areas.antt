@@ -1,7 +1,7 @@
 -- The areas of memory, whose bytes a function of addresses gives, and how they stand in pages.
-use Rattle.std.specs.Prelude.{◌≡◌, ℕ, ◌+◌, ◌*◌, ◌-◌, ◌/◌, ◌%◌, ◌<◌, ◌≤◌, ◌⊎◌, List, ◌++◌, Bool, true, ◌&&◌, AllPairs, map}
-use Rattle.std.specs.Prelude.{take, drop, find, length, nat_le, nat_lt, Option, Some, None, is_some, if◌then◌else◌}
-use Rattle.std.specs.Prelude.{slice_index}
+use Rattle.std.specs.Prelude.{◌≡◌, ℕ, ◌+◌, ◌*◌, ◌-◌, ◌/◌, ◌%◌, ◌<◌, ◌≤◌, ◌⊎◌, List, ◌++◌, Bool, true, ◌&&◌, map}
+use Rattle.std.specs.Prelude.{AllPairs, take, drop, find, length, nat_le, nat_lt, Option, Some, None, is_some}
+use Rattle.std.specs.Prelude.{if◌then◌else◌, slice_index}
 use Rattle.std.specs.List.{range_with_len}
 use Rattle.machine_spec.specs.Memory.{Range}
 use Rattle.flat_spec.specs.Stores.{allows_store, allows_fetch}

@@ -42,7 +42,8 @@ add_stack-requires-clause-below c =
     ∙ ap (λ (e : Elf). e.segments) c.requires.read in
     let all : take c.loop-segment.segment-index c.as_slice-segments.result.now ≡ c.as_slice-segments.result.now =
     take_all _ _ c.loop-segment-test.false in
-    let inside : All (IsLoadedInside (length c.args.file.now)) c.as_slice-segments.result.now = rw same facts.segments in
+    let inside : All (IsLoadedInside (length c.args.file.now)) c.as_slice-segments.result.now =
+    rw same facts.segments in
     let below : All (λ (r : Area). r.start + r.size ≤ stack_start)
     (map area_for (filter is_loaded c.as_slice-segments.result.now)) =
     segments_below (length c.args.file.now) c.as_slice-segments.result.now inside in

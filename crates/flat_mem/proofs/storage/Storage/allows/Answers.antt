@@ -17,6 +17,7 @@ returns c =
     ∙ ap number_of (part_is c.self.inside.directory.items c.self.inside.rights.items c.args.addr (size_of c.args.width)
     (rights_direct c.self.inside.areas.items c.self.inside.directory.items c.self.inside.bytes.items
     c.self.inside.rights.items c.self.invariant) page) in
-    rw (← c.self.view_is, part, c.flags-wanted.ensures) (number_allows c.self.inside.areas.items c.self.inside.directory.items
-    c.self.inside.bytes.items c.self.inside.rights.items c.args.access c.args.addr (size_of c.args.width)
+    rw (← c.self.view_is, part, c.flags-wanted.ensures) (number_allows c.self.inside.areas.items
+    c.self.inside.directory.items c.self.inside.bytes.items c.self.inside.rights.items c.args.access c.args.addr
+    (size_of c.args.width)
     c.self.invariant)

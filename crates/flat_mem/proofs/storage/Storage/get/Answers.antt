@@ -24,7 +24,8 @@ returns c =
       place_end c.self.inside.directory.items c.self.inside.bytes.items c.args.addr 1
           c.self.invariant.directs (omega arith),
     ) in
-    let byte : c.index.result.now ≡ get_or c.self.inside.bytes.items (place c.self.inside.directory.items c.args.addr) 0 =
+    let byte : c.index.result.now
+    ≡ get_or c.self.inside.bytes.items (place c.self.inside.directory.items c.args.addr) 0 =
     c.index.ensures ∙ get_or_default c.self.inside.bytes.items c.place_in.result c.index.result.now 0 inside
     ∙ ap (λ i. get_or c.self.inside.bytes.items i 0) there in
     let is : byte_of c.args.self.now c.args.addr
