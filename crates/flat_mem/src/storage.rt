@@ -74,7 +74,8 @@ impl Storage {
     fn allows_all(&self, access: Access, addr: u32, len: u32) -> bool
         ensures { result ≡ all_from (λ k. allows access (range_at self.now k)) addr len }
     {
-        let _ = &self.areas;
+        // No address behind the directory is in memory.
+        let _ = &self.directory;
         let mut done = 0;
         while done < len {
             let Some(at) = addr.checked_add(done) else {
