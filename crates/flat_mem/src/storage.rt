@@ -131,6 +131,7 @@ impl Storage {
 
     /// What a load of this width makes of the bytes at an address; none exactly where the address is no
     /// multiple of the width or one of the bytes is outside memory.
+    #[inline(always)]
     pub fn load_number(&self, width: Width, addr: u32) -> Option<u32>
         ensures { result ≡ loaded self.now width addr }
     {
@@ -147,6 +148,7 @@ impl Storage {
 
     /// Stores the lowest bytes of a value. False exactly where the address is no multiple of the width
     /// or one of the bytes can't be stored to; then nothing changes.
+    #[inline(always)]
     pub fn store_number(&mut self, width: Width, addr: u32, value: u32) -> bool
         ensures { Stores result (stored self.old width addr value) self.old self.new }
     {

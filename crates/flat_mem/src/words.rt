@@ -8,6 +8,7 @@ use byteorder::{ByteOrder, LittleEndian};
 use rv_isa::Width;
 
 /// How many bytes a load or a store of this width moves.
+#[inline(always)]
 pub fn size_of(width: Width) -> u32
     ensures { result ≡ size_of width }
 {
@@ -33,6 +34,7 @@ pub fn width_at(addr: u32, most: u32) -> Width
 }
 
 /// The word that a load makes of the number that it reads.
+#[inline(always)]
 pub fn loaded_as(width: Width, number: u32) -> u32
     requires { number < 2 ^ (8 * size_of width) }
     ensures { result ≡ loaded_as width number }
@@ -45,6 +47,7 @@ pub fn loaded_as(width: Width, number: u32) -> u32
 }
 
 /// The number that stands at a place.
+#[inline(always)]
 pub fn number_at(bytes: &[u8], place: usize, width: Width) -> u32
     requires { place + size_of width ≤ length bytes.now }
     ensures is { result ≡ number_of (take (size_of width) (drop place bytes.now)) }
@@ -58,6 +61,7 @@ pub fn number_at(bytes: &[u8], place: usize, width: Width) -> u32
 }
 
 /// Writes the lowest bytes of a value to a place.
+#[inline(always)]
 pub fn write_number(bytes: &mut [u8], place: usize, width: Width, value: u32)
     requires { place + size_of width ≤ length bytes.old }
     ensures { bytes.new ≡ written bytes.old place (low_bytes (size_of width) value) }
