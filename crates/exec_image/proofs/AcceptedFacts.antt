@@ -1,10 +1,9 @@
 -- What the checks keep of an accepted file.
-use Rattle.std.proofs.Common.{◌≡◌, ℕ, ◌+◌, ◌-◌, ◌%◌, ◌≤◌, ◌==◌, ◌&&◌, not, Bool, true, false, List, [], ◌∷◌}
+use Rattle.std.proofs.Common.{◌≡◌, ℕ, ◌+◌, ◌-◌, ◌%◌, ◌≤◌, ◌==◌, ◌&&◌, not, Bool, true, false, List}
 use Rattle.std.proofs.Common.{get_or, length, nat_eq, nat_le, nat_lt, refl, sym, subst, arith, Option, Some, None}
 use Rattle.std.proofs.Common.{is_some, option_map, if◌then◌else◌}
 use Rattle.std.specs.List.{All, find, list_any}
 use Rattle.std.proofs.lemmas.Bool.Decides.{nat_tests}
-use Rattle.std.proofs.lemmas.List.Elements.{All-cons, All-nil}
 use Rattle.std.proofs.lemmas.List.Folds.{Any-from_list_any}
 use Rattle.elf_spec.specs.declared.HeapName.{HeapName}
 use Rattle.elf_spec.specs.declared.HeapName.TheVariants.{Malloc, Calloc, Realloc, Free, MallocR, CallocR, ReallocR}
@@ -28,8 +27,9 @@ use Rattle.exec_image.specs.Checks.{descriptions, has_mark, is_place_of, uses_tp
 use Rattle.exec_image.specs.HeapChecks.{is_small, lacks_words}
 use Rattle.exec_image.specs.Images.{IsAccepted}
 use Rattle.exec_image.specs.Refusals.{already_rewritten, entry_out, exec_outside, heap_entry_small, image_too_large}
-use Rattle.exec_image.specs.Refusals.{tp_used, small_of}
+use Rattle.exec_image.specs.Refusals.{tp_used, small_fault}
 use Rattle.elf_read.specs.Elf.{IsReadable}
+use Rattle.first_check.proofs.Items.{item_passes}
 use Rattle.exec_image.proofs.CodePlaces.{IsPlaced, all_placed, all_words}
 use Rattle.exec_image.proofs.Finding.{NoneBelow, found_in, found_passes, found_some}
 use Rattle.exec_image.proofs.HeapApart.{heap_apart}
@@ -127,20 +127,14 @@ two_words file name h a e =
     let (u, v) = both_false (not (is_some (code_word file a))) (not (is_some (code_word file (a + 4)))) z in
     (yes (is_some (code_word file a)) u, yes (is_some (code_word file (a + 4))) v)
 
--- where no function of some names is too small, each has its two words
-none_small : (file : List ℕ) (names : List HeapName) → small_of file names ≡ None → All (HasTwoWords file) names
-none_small file [] h = All-nil (HasTwoWords file)
-none_small file (name ∷ names) h =
-    let (a, b) = none_both (when (is_small file name) (HeapEntrySmall name)) (small_of file names) h in
-    All-cons (HasTwoWords file) name names (two_words file name (not_when (is_small file name) (HeapEntrySmall name) a))
-    (none_small file names b)
-
 heap_words : (file : List ℕ) → heap_entry_small file ≡ None → (name : HeapName) → HasTwoWords file name
 unfolding heap_entry_small
 heap_words file h name = by_name name
   where
     all : All (HasTwoWords file) heap_names
-    all = none_small file heap_names h
+    all = λ k d l. two_words file (get_or heap_names k d)
+        (not_when (is_small file (get_or heap_names k d)) (HeapEntrySmall (get_or heap_names k d))
+        (item_passes (small_fault file) heap_names h k d l))
 
     by_name : (name : HeapName) → HasTwoWords file name
     by_name Malloc = all 0 Malloc (omega arith)

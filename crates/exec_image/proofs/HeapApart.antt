@@ -1,6 +1,6 @@
 -- Two heap functions of an accepted file share none of their eight bytes.
-use Rattle.std.proofs.Common.{◌≡◌, ◌≢◌, ℕ, zero, suc, ◌<◌, Bool, true, false, List, [], ◌∷◌, ◌++◌}
-use Rattle.std.proofs.Common.{append-nil, append_assoc, get_or, length, take, nat_lt, refl, sym, ap, ◌∙◌, subst, arith}
+use Rattle.std.proofs.Common.{◌≡◌, ◌≢◌, ℕ, zero, suc, ◌<◌, Bool, true, false, List, [], ◌∷◌}
+use Rattle.std.proofs.Common.{get_or, length, take, nat_lt, refl, sym, ap, ◌∙◌, subst, arith}
 use Rattle.std.proofs.Common.{Some, None}
 use Rattle.std.specs.List.{All, list_any}
 use Rattle.std.specs.Prelude.{slice_get}
@@ -12,11 +12,11 @@ use Rattle.elf_spec.specs.declared.HeapName.TheVariants.{Malloc, Calloc, Realloc
 use Rattle.elf_spec.specs.declared.HeapName.TheVariants.{FreeR}
 use Rattle.elf_spec.specs.Heap.{heap_entry, heap_names}
 use Rattle.elf_read.specs.Checks.{is_shared}
-use Rattle.first_check.specs.First.{when}
 use Rattle.exec_image.specs.declared.refusals.FileRefusal.TheVariants.{HeapEntryTwice}
 use Rattle.exec_image.specs.HeapChecks.{has_two_values, is_overlap, is_twice}
-use Rattle.exec_image.specs.Refusals.{heap_entry_twice, twice_from}
-use Rattle.exec_image.proofs.Passed.{both_false, none_both, not_when}
+use Rattle.exec_image.specs.Refusals.{heap_entry_twice, twice_fault}
+use Rattle.first_check.proofs.Items.{item_passes}
+use Rattle.exec_image.proofs.Passed.{both_false, not_when}
 use Rattle.exec_image.proofs.PlanFits.{none_of_any}
 
 -- where a name stands among the names
@@ -52,32 +52,18 @@ beside_before file before name h =
     (both_false (has_two_values file name) (list_any (λ x. is_overlap (heap_entry file x) (heap_entry file name))
     before) h).1
 
--- where none of the names is there twice, each overlaps none before it
-beside_at : (file : List ℕ) (before names : List HeapName) (k : ℕ) (name : HeapName)
-    → twice_from file before names ≡ None
-    → slice_get names k ≡ Some name → IsBeside file (before ++ take k names) name
-beside_at file before [] k name h e = absurd (cc)
-beside_at file before (x ∷ names) zero name h e =
-    let (first, rest) = none_both (when (is_twice file before x) (HeapEntryTwice x))
-    (twice_from file (before ++ x ∷ []) names) h in
-    let same : x ≡ name = cc in
-    let all : IsBeside file before x = beside_before file before x
-    (not_when (is_twice file before x) (HeapEntryTwice x) first) in
-    subst (λ xs. IsBeside file xs name) (sym (append-nil before)) (subst (IsBeside file before) same all)
-beside_at file before (x ∷ names) (suc k) name h e =
-    let (first, rest) = none_both (when (is_twice file before x) (HeapEntryTwice x))
-    (twice_from file (before ++ x ∷ []) names) h in
-    subst (λ xs. IsBeside file xs name) (append_assoc before (x ∷ []) (take k names))
-    (beside_at file (before ++ x ∷ []) names k name rest e)
-
 -- a name overlaps none that stands before it
 beside_earlier : (file : List ℕ) (n m : HeapName) → heap_entry_twice file ≡ None → place_of n < place_of m
     → is_overlap (heap_entry file n) (heap_entry file m) ≡ false
 unfolding heap_entry_twice
 beside_earlier file n m h low =
-    let all : IsBeside file (take (place_of m) heap_names) m =
-    beside_at file [] heap_names (place_of m) m h (in_place m) in
     let below : place_of m < length heap_names = slice_get_within heap_names (place_of m) m (in_place m) in
+    let here : get_or heap_names (place_of m) m ≡ m = get_or_from_slice_get heap_names (place_of m) m m (in_place m) in
+    let once : twice_fault file heap_names (place_of m) (get_or heap_names (place_of m) m) ≡ None =
+    item_passes (twice_fault file heap_names) heap_names h (place_of m) m below in
+    let all : IsBeside file (take (place_of m) heap_names) m =
+    beside_before file (take (place_of m) heap_names) m
+    (not_when (is_twice file (take (place_of m) heap_names) m) (HeapEntryTwice m) (rw here at once)) in
     let is : get_or (take (place_of m) heap_names) (place_of n) n ≡ n =
     get_or-take (place_of m) heap_names (place_of n) n low
     ∙ get_or_from_slice_get heap_names (place_of n) n n (in_place n) in

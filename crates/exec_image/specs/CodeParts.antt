@@ -2,17 +2,16 @@
 -- that put them there.
 use Rattle.std.specs.Prelude.{◌≡◌, ℕ, ◌+◌, ◌-◌, ◌&&◌, Bool, List, map, filter, find, Option, None, option_map, nat_le}
 use Rattle.std.specs.Prelude.{nat_lt}
-use Rattle.elf_spec.specs.declared.HeapName.TheVariants.{Malloc, Calloc, Realloc, Free, MallocR, CallocR, ReallocR}
-use Rattle.elf_spec.specs.declared.HeapName.TheVariants.{FreeR}
+use Rattle.elf_spec.specs.declared.HeapName.{HeapName}
 use Rattle.elf_spec.specs.declared.Section.{Section}
 use Rattle.elf_spec.specs.declared.Segment.{Segment}
 use Rattle.elf_spec.specs.Code.{is_executable}
-use Rattle.elf_spec.specs.Heap.{heap_entry}
+use Rattle.elf_spec.specs.Heap.{heap_entry, heap_names}
 use Rattle.elf_spec.specs.Memory.{is_loaded}
 use Rattle.elf_spec.specs.Records.{sections_of, segments_of}
 use Rattle.elf_read.specs.Readable.{ReadableFacts}
 use Rattle.exec_image.specs.declared.parts.Part.{Part}
-use Rattle.exec_image.specs.declared.heap.HeapEntries.{HeapEntries}
+use Rattle.exec_image.specs.declared.heap.HeapEntry.{HeapEntry}
 use Rattle.exec_image.specs.Parts.{StandsFor}
 use Rattle.exec_image.specs.Refusals.{exec_not_words, exec_outside}
 
@@ -35,13 +34,10 @@ pub record IsCode (file : List ℕ) (segments : List Segment) (code : List Part)
   pub inside : exec_outside file ≡ None
   pub parts : StandsFor (code_parts (sections_of file)) code
 
--- the heap functions of a file
-pub record IsHeap (file : List ℕ) (heap : HeapEntries) : Type 0 where
-  pub malloc : heap.malloc ≡ heap_entry file Malloc
-  pub calloc : heap.calloc ≡ heap_entry file Calloc
-  pub realloc : heap.realloc ≡ heap_entry file Realloc
-  pub free : heap.free ≡ heap_entry file Free
-  pub malloc_r : heap.malloc_r ≡ heap_entry file MallocR
-  pub calloc_r : heap.calloc_r ≡ heap_entry file CallocR
-  pub realloc_r : heap.realloc_r ≡ heap_entry file ReallocR
-  pub free_r : heap.free_r ≡ heap_entry file FreeR
+-- a heap function of a file with its address
+abbrev pub entry_of : List ℕ → HeapName → HeapEntry
+entry_of file name = record { name = name; addr = heap_entry file name }
+
+-- the heap functions of a file, in the order of the names
+abbrev pub IsHeap : List ℕ → List HeapEntry → Type 0
+IsHeap file heap = heap ≡ map (entry_of file) heap_names

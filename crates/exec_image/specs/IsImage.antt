@@ -10,5 +10,5 @@ pub record IsImage (a : Inside) : Type 0 where
   pub read : IsReadFrom a.elf a.file.items
   pub execs : a.execs ≡ execs_of a.file.items
   pub code : IsCode a.file.items a.elf.segments a.code.items
-  pub heap : IsHeap a.file.items a.heap
+  pub heap : IsHeap a.file.items a.heap.items
   pub sites : AreSites a.file.items a.sites

@@ -1,7 +1,7 @@
 -- Why a file isn't accepted as an executable: the first check that it fails, with its item, and the
 -- lowest index or address.
-use Rattle.std.specs.Prelude.{ℕ, Bool, not, ◌&&◌, ◌||◌, List, [], ◌∷◌, ◌++◌, Option, None, is_some}
-use Rattle.std.specs.Prelude.{option_map, position, nat_lt}
+use Rattle.std.specs.Prelude.{ℕ, Bool, not, ◌&&◌, ◌||◌, List, Option, is_some}
+use Rattle.std.specs.Prelude.{option_map, position, take, nat_lt}
 use Rattle.std.specs.List.{list_any}
 use Rattle.elf_spec.specs.declared.HeapName.{HeapName}
 use Rattle.elf_spec.specs.declared.Section.{Section}
@@ -9,7 +9,7 @@ use Rattle.elf_spec.specs.Code.{code_word, is_executable}
 use Rattle.elf_spec.specs.Heap.{heap_names}
 use Rattle.elf_spec.specs.Memory.{image_end}
 use Rattle.elf_spec.specs.Records.{e_entry, e_phnum, sections_of, segments_of}
-use Rattle.first_check.specs.First.{first_below}
+use Rattle.first_check.specs.First.{first_below, first_item}
 use Rattle.elf_read.specs.Refusals.{memory_size, refusal}
 use Rattle.first_check.specs.First.{◌or_else◌, when}
 use Rattle.reloc_table.specs.Refusals.{reloc_refusal}
@@ -38,22 +38,19 @@ exec_outside file = option_map ExecOutside (position (is_outside file) (sections
 unfoldable pub entry_out : List ℕ → Option FileRefusal
 entry_out file = when (not (is_some (code_word file (e_entry file)))) (EntryOut (e_entry file))
 
--- the first of the names, behind those before, whose function is there twice
-abbrev pub twice_from : List ℕ → List HeapName → List HeapName → Option FileRefusal
-twice_from file before [] = None
-twice_from file before (name ∷ names) =
-    when (is_twice file before name) (HeapEntryTwice name) or_else twice_from file (before ++ name ∷ []) names
+-- the function of a name is there twice, or where one of an earlier name is
+abbrev pub twice_fault : List ℕ → List HeapName → ℕ → HeapName → Option FileRefusal
+twice_fault file names i name = when (is_twice file (take i names) name) (HeapEntryTwice name)
 
 unfoldable pub heap_entry_twice : List ℕ → Option FileRefusal
-heap_entry_twice file = twice_from file [] heap_names
+heap_entry_twice file = first_item (twice_fault file heap_names) heap_names
 
--- the first of the names whose function is too small
-abbrev pub small_of : List ℕ → List HeapName → Option FileRefusal
-small_of file [] = None
-small_of file (name ∷ names) = when (is_small file name) (HeapEntrySmall name) or_else small_of file names
+-- the function of a name is too small
+abbrev pub small_fault : List ℕ → ℕ → HeapName → Option FileRefusal
+small_fault file i name = when (is_small file name) (HeapEntrySmall name)
 
 unfoldable pub heap_entry_small : List ℕ → Option FileRefusal
-heap_entry_small file = small_of file heap_names
+heap_entry_small file = first_item (small_fault file) heap_names
 
 unfoldable pub already_rewritten : List ℕ → Option FileRefusal
 already_rewritten file = when (list_any (has_mark file) (segments_of file)) AlreadyRewritten

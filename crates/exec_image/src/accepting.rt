@@ -8,7 +8,7 @@ ghost use Rattle.exec_image.specs.Images.{GivesImage};
 ghost use Rattle.exec_image.specs.Refusals.{rest_refusal};
 
 use crate::code::read_code;
-use crate::heap::{HeapEntries, check_places, check_sizes, read_heap};
+use crate::heap::{HeapEntry, check_places, check_sizes, read_heap};
 use crate::image::{Image, image_of};
 use crate::layout::{check_entry, check_outside, check_words};
 use crate::parts::Part;
@@ -43,7 +43,7 @@ fn of_relocs(why: RelocRefusal) -> FileRefusal
 
 /// The checks of the entry, the heap functions, the segments and the code's registers.
 #[tactic(auto, using(crate::proofs::Headers::count_segments))]
-fn check_image(file: &[u8], elf: &Elf, code: &[Part], heap: &HeapEntries) -> Result<(), FileRefusal>
+fn check_image(file: &[u8], elf: &Elf, code: &[Part], heap: &[HeapEntry]) -> Result<(), FileRefusal>
     requires read { IsReadFrom elf.now file.now }
     requires code { IsCode file.now elf.now.segments code.now }
     requires heap { IsHeap file.now heap.now }
@@ -80,7 +80,9 @@ pub fn accept(alloc: Global, file: &[u8]) -> Result<Image, FileRefusal>
     let Ok(code) = read_code(alloc, elf.sections.as_slice()) else {
         return Err(FileRefusal::Memory);
     };
-    let heap = read_heap(file, elf.symbols.as_slice());
+    let Ok(heap) = read_heap(alloc, file, elf.symbols.as_slice()) else {
+        return Err(FileRefusal::Memory);
+    };
     check_image(file, &elf, &code, &heap)?;
     match image_of(alloc, file, elf, relocs.entries_once(), code, heap) {
         Ok(image) => Ok(image),

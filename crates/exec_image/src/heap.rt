@@ -1,15 +1,15 @@
 // The heap functions of an executable and their checks (gABI, "Symbol Table").
 
-ghost use Rattle.std.specs.Prelude.{◌≡◌, ◌==◌, ◌+◌, ◌&&◌, ◌||◌, not, bytes_eq, find, is_some, nat_le};
+ghost use Rattle.std.specs.Prelude.{◌≡◌, ◌==◌, ◌+◌, ◌&&◌, ◌||◌, not, bytes_eq, find, is_some, map, nat_le, IfOk};
 ghost use Rattle.std.specs.List.{list_any};
 ghost use Rattle.elf_spec.specs.Code.{code_word};
 ghost use Rattle.elf_spec.specs.Heap.{heap_entry, heap_name, is_heap_symbol};
 ghost use Rattle.elf_spec.specs.Tables.{symbol_name, symbols_of};
-ghost use Rattle.first_check.specs.First.{when};
+ghost use Rattle.first_check.specs.First.{first_item, when};
 ghost use Rattle.first_check.specs.Answers.{Says};
 ghost use Rattle.exec_image.specs.HeapChecks.{has_two_values, is_overlap, is_small, is_twice, lacks_words};
-ghost use Rattle.exec_image.specs.CodeParts.{IsCode, IsHeap};
-ghost use Rattle.exec_image.specs.Refusals.{heap_entry_small, heap_entry_twice};
+ghost use Rattle.exec_image.specs.CodeParts.{IsCode, IsHeap, entry_of};
+ghost use Rattle.exec_image.specs.Refusals.{heap_entry_small, heap_entry_twice, small_fault, twice_fault};
 ghost use Rattle.exec_image.specs.declared.refusals.FileRefusal.TheVariants.{HeapEntrySmall, HeapEntryTwice};
 
 use crate::code::{code_word, is_code_word};
@@ -17,6 +17,7 @@ use crate::file_bytes::bytes_at;
 use crate::parts::Part;
 use crate::refusals::FileRefusal;
 use elf_spec::{HeapName, Segment, Symbol};
+use std::alloc::{AllocError, Global};
 
 /// The binding of a symbol, and its type.
 const STB_GLOBAL: u8 = 1;
@@ -25,34 +26,36 @@ const STB_WEAK: u8 = 2;
 
 const STT_FUNC: u8 = 2;
 
-/// The addresses of the heap functions that the executable has.
-#[derive(Clone, Copy)]
-pub struct HeapEntries {
-    pub malloc: Option<u32>,
-    pub calloc: Option<u32>,
-    pub realloc: Option<u32>,
-    pub free: Option<u32>,
-    pub malloc_r: Option<u32>,
-    pub calloc_r: Option<u32>,
-    pub realloc_r: Option<u32>,
-    pub free_r: Option<u32>,
+/// The heap functions, in the order in which they are looked at: that of the variants of `HeapName`.
+pub const HEAP_NAMES: [HeapName; 8] = [
+    HeapName::Malloc,
+    HeapName::Calloc,
+    HeapName::Realloc,
+    HeapName::Free,
+    HeapName::MallocR,
+    HeapName::CallocR,
+    HeapName::ReallocR,
+    HeapName::FreeR,
+];
+
+/// A heap function with its address; `None` where the executable lacks it.
+#[derive(Clone, Copy, Debug)]
+pub struct HeapEntry {
+    pub name: HeapName,
+    pub addr: Option<u32>,
 }
 
 /// The address of one heap function.
-pub fn entry_in(file: &[u8], heap: &HeapEntries, name: HeapName) -> Option<u32>
+pub fn entry_in(file: &[u8], heap: &[HeapEntry], name: HeapName) -> Option<u32>
     requires { IsHeap file.now heap.now }
     ensures { result ≡ heap_entry file.now name }
 {
-    match name {
-        HeapName::Malloc => heap.malloc,
-        HeapName::Calloc => heap.calloc,
-        HeapName::Realloc => heap.realloc,
-        HeapName::Free => heap.free,
-        HeapName::MallocR => heap.malloc_r,
-        HeapName::CallocR => heap.calloc_r,
-        HeapName::ReallocR => heap.realloc_r,
-        HeapName::FreeR => heap.free_r,
+    for entry in heap {
+        if entry.name == name {
+            return entry.addr;
+        }
     }
+    None
 }
 
 /// Whether the symbol has the name of a heap function.
@@ -91,21 +94,34 @@ fn find_entry(file: &[u8], symbols: &[Symbol], name: HeapName) -> Option<u32>
     Some(s.value)
 }
 
-/// The addresses of all of them.
-pub fn read_heap(file: &[u8], symbols: &[Symbol]) -> HeapEntries
+/// The addresses of these functions.
+fn find_entries(
+    alloc: Global,
+    file: &[u8],
+    symbols: &[Symbol],
+    names: &[HeapName],
+) -> Result<Vec<HeapEntry>, AllocError>
     requires { symbols.now ≡ symbols_of file.now }
-    ensures { IsHeap file.now result }
+    ensures { IfOk result (λ list. list.items ≡ map (entry_of file.now) names.now) }
 {
-    HeapEntries {
-        malloc: find_entry(file, symbols, HeapName::Malloc),
-        calloc: find_entry(file, symbols, HeapName::Calloc),
-        realloc: find_entry(file, symbols, HeapName::Realloc),
-        free: find_entry(file, symbols, HeapName::Free),
-        malloc_r: find_entry(file, symbols, HeapName::MallocR),
-        calloc_r: find_entry(file, symbols, HeapName::CallocR),
-        realloc_r: find_entry(file, symbols, HeapName::ReallocR),
-        free_r: find_entry(file, symbols, HeapName::FreeR),
+    let mut list = Vec::new(alloc);
+    for name in names {
+        let addr = find_entry(file, symbols, *name);
+        list.push(HeapEntry { name: *name, addr })?;
     }
+    Ok(list)
+}
+
+/// The addresses of all heap functions, in the order of their names.
+pub fn read_heap(
+    alloc: Global,
+    file: &[u8],
+    symbols: &[Symbol],
+) -> Result<Vec<HeapEntry>, AllocError>
+    requires { symbols.now ≡ symbols_of file.now }
+    ensures { IfOk result (λ list. IsHeap file.now list.items) }
+{
+    find_entries(alloc, file, symbols, &HEAP_NAMES)
 }
 
 /// Whether a symbol of the heap function has another value than this.
@@ -141,7 +157,7 @@ fn is_overlap(first: Option<u32>, second: Option<u32>) -> bool
 }
 
 /// Whether a heap function has one of the eight bytes of those before.
-fn meets_one(file: &[u8], heap: &HeapEntries, before: &[HeapName], entry: Option<u32>) -> bool
+fn meets_one(file: &[u8], heap: &[HeapEntry], before: &[HeapName], entry: Option<u32>) -> bool
     requires { IsHeap file.now heap.now }
     ensures { result ≡ list_any (λ earlier. is_overlap (heap_entry file.now earlier) entry) before.now }
 {
@@ -153,7 +169,7 @@ fn meets_one(file: &[u8], heap: &HeapEntries, before: &[HeapName], entry: Option
 fn check_place(
     file: &[u8],
     symbols: &[Symbol],
-    heap: &HeapEntries,
+    heap: &[HeapEntry],
     before: &[HeapName],
     name: HeapName,
 ) -> Result<(), FileRefusal>
@@ -168,31 +184,31 @@ fn check_place(
     Ok(())
 }
 
+/// Checks that each of these functions has one place of its own.
+fn check_places_of(
+    file: &[u8],
+    symbols: &[Symbol],
+    heap: &[HeapEntry],
+    names: &[HeapName],
+) -> Result<(), FileRefusal>
+    requires symbols { symbols.now ≡ symbols_of file.now }
+    requires heap { IsHeap file.now heap.now }
+    ensures { Says result (first_item (twice_fault file.now names.now) names.now) }
+{
+    for i in 0..names.len() {
+        check_place(file, symbols, heap, &names[..i], names[i])?;
+    }
+    Ok(())
+}
+
 /// Checks that each heap function has one place of its own.
 #[tactic(auto, unfolding(crate::specs::Refusals::heap_entry_twice))]
-pub fn check_places(file: &[u8], symbols: &[Symbol], heap: &HeapEntries) -> Result<(), FileRefusal>
+pub fn check_places(file: &[u8], symbols: &[Symbol], heap: &[HeapEntry]) -> Result<(), FileRefusal>
     requires symbols { symbols.now ≡ symbols_of file.now }
     requires heap { IsHeap file.now heap.now }
     ensures { Says result (heap_entry_twice file.now) }
 {
-    let names = [
-        HeapName::Malloc,
-        HeapName::Calloc,
-        HeapName::Realloc,
-        HeapName::Free,
-        HeapName::MallocR,
-        HeapName::CallocR,
-        HeapName::ReallocR,
-        HeapName::FreeR,
-    ];
-    check_place(file, symbols, heap, &names[..0], HeapName::Malloc)?;
-    check_place(file, symbols, heap, &names[..1], HeapName::Calloc)?;
-    check_place(file, symbols, heap, &names[..2], HeapName::Realloc)?;
-    check_place(file, symbols, heap, &names[..3], HeapName::Free)?;
-    check_place(file, symbols, heap, &names[..4], HeapName::MallocR)?;
-    check_place(file, symbols, heap, &names[..5], HeapName::CallocR)?;
-    check_place(file, symbols, heap, &names[..6], HeapName::ReallocR)?;
-    check_place(file, symbols, heap, &names[..7], HeapName::FreeR)
+    check_places_of(file, symbols, heap, &HEAP_NAMES)
 }
 
 /// Whether one of the two words at an address is no code word.
@@ -241,7 +257,7 @@ fn check_size(
     segments: &[Segment],
     code: &[Part],
     symbols: &[Symbol],
-    heap: &HeapEntries,
+    heap: &[HeapEntry],
     name: HeapName,
 ) -> Result<(), FileRefusal>
     requires code { IsCode file.now segments.now code.now }
@@ -257,6 +273,26 @@ fn check_size(
     Ok(())
 }
 
+/// Checks that each of these functions has two words.
+fn check_sizes_of(
+    file: &[u8],
+    segments: &[Segment],
+    code: &[Part],
+    symbols: &[Symbol],
+    heap: &[HeapEntry],
+    names: &[HeapName],
+) -> Result<(), FileRefusal>
+    requires code { IsCode file.now segments.now code.now }
+    requires symbols { symbols.now ≡ symbols_of file.now }
+    requires heap { IsHeap file.now heap.now }
+    ensures { Says result (first_item (small_fault file.now) names.now) }
+{
+    for name in names {
+        check_size(file, segments, code, symbols, heap, *name)?;
+    }
+    Ok(())
+}
+
 /// Checks that each heap function has two words.
 #[tactic(auto, unfolding(crate::specs::Refusals::heap_entry_small))]
 pub fn check_sizes(
@@ -264,19 +300,12 @@ pub fn check_sizes(
     segments: &[Segment],
     code: &[Part],
     symbols: &[Symbol],
-    heap: &HeapEntries,
+    heap: &[HeapEntry],
 ) -> Result<(), FileRefusal>
     requires code { IsCode file.now segments.now code.now }
     requires symbols { symbols.now ≡ symbols_of file.now }
     requires heap { IsHeap file.now heap.now }
     ensures { Says result (heap_entry_small file.now) }
 {
-    check_size(file, segments, code, symbols, heap, HeapName::Malloc)?;
-    check_size(file, segments, code, symbols, heap, HeapName::Calloc)?;
-    check_size(file, segments, code, symbols, heap, HeapName::Realloc)?;
-    check_size(file, segments, code, symbols, heap, HeapName::Free)?;
-    check_size(file, segments, code, symbols, heap, HeapName::MallocR)?;
-    check_size(file, segments, code, symbols, heap, HeapName::CallocR)?;
-    check_size(file, segments, code, symbols, heap, HeapName::ReallocR)?;
-    check_size(file, segments, code, symbols, heap, HeapName::FreeR)
+    check_sizes_of(file, segments, code, symbols, heap, &HEAP_NAMES)
 }

@@ -22,7 +22,7 @@ use crate::calls::read_calls;
 use crate::code::{code_place, code_word, next_code_word};
 use crate::execs::{Execs, read_execs};
 use crate::file_bytes::bytes_at;
-use crate::heap::{HeapEntries, entry_in};
+use crate::heap::{HeapEntry, entry_in};
 use crate::laws::accepted_files_keep_their_facts;
 use crate::parts::Part;
 use crate::segments::text_place;
@@ -41,7 +41,7 @@ pub struct Image {
     elf: Elf,
     execs: Execs,
     code: Vec<Part>,
-    heap: HeapEntries,
+    heap: Vec<HeapEntry>,
     sites: Sites,
 }
 
@@ -65,13 +65,13 @@ pub fn image_of(
     elf: Elf,
     relocs: &[Reloc],
     code: Vec<Part>,
-    heap: HeapEntries,
+    heap: Vec<HeapEntry>,
 ) -> Result<Image, AllocError>
     requires accepted { IsAccepted file.now }
     requires read { IsReadFrom elf file.now }
     requires relocs { (p : Reloc → Bool) → list_any p relocs.now ≡ list_any p (relocs_of file.now) }
     requires code { IsCode file.now elf.segments code.items }
-    requires heap { IsHeap file.now heap }
+    requires heap { IsHeap file.now heap.items }
     ensures { IfOk result (λ image. image ≡ file.now) }
 {
     let calls = read_calls(alloc, relocs)?;

@@ -23,6 +23,7 @@ mod tp;
 pub use accepting::accept;
 pub use elf_spec::HeapName;
 pub use execs::{Exec, Execs};
+pub use heap::HEAP_NAMES;
 pub use image::Image;
 pub use laws::{accepted_files_keep_their_facts, no_two_sites_share_a_return_address};
 pub use plan_check::check_plan;

@@ -16,7 +16,7 @@ ghost use Rattle.exec_image.specs.Images.{AreSites};
 
 use crate::calls::{Calls, is_among};
 use crate::code::{code_word, is_code_word};
-use crate::heap::HeapEntries;
+use crate::heap::HeapEntry;
 use crate::parts::Part;
 use elf_spec::Segment;
 use rv_isa::{Instr, decode};
@@ -165,28 +165,18 @@ fn is_word_of(entry: Option<u32>, addr: u32) -> bool
     }
 }
 
-fn is_word_of_one(entries: &[Option<u32>], addr: u32) -> bool
-    ensures { result ≡ list_any (is_word_of addr) entries.now }
+fn is_word_of_one(heap: &[HeapEntry], addr: u32) -> bool
+    ensures { result ≡ list_any (λ e. is_word_of addr e.addr) heap.now }
 {
-    entries.iter().any(|entry| is_word_of(*entry, addr))
+    heap.iter().any(|entry| is_word_of(entry.addr, addr))
 }
 
 /// Whether an address is that of a word of a heap function.
-pub fn is_heap_word(file: &[u8], heap: &HeapEntries, addr: u32) -> bool
+pub fn is_heap_word(file: &[u8], heap: &[HeapEntry], addr: u32) -> bool
     requires { IsHeap file.now heap.now }
     ensures { result ≡ is_heap_word file.now addr }
 {
-    let entries = [
-        heap.malloc,
-        heap.calloc,
-        heap.realloc,
-        heap.free,
-        heap.malloc_r,
-        heap.calloc_r,
-        heap.realloc_r,
-        heap.free_r,
-    ];
-    is_word_of_one(&entries, addr)
+    is_word_of_one(heap, addr)
 }
 
 /// Whether a call goes to a code word, and from words that are no heap function's.
@@ -194,7 +184,7 @@ fn is_call_of_code(
     file: &[u8],
     segments: &[Segment],
     code: &[Part],
-    heap: &HeapEntries,
+    heap: &[HeapEntry],
     s: &Site,
 ) -> bool
     requires code { IsCode file.now segments.now code.now }
@@ -214,7 +204,7 @@ fn site_at(
     segments: &[Segment],
     code: &[Part],
     calls: &Calls,
-    heap: &HeapEntries,
+    heap: &[HeapEntry],
     text: u32,
     addr: u32,
 ) -> Option<Site>
@@ -241,7 +231,7 @@ fn sites_at(
     segments: &[Segment],
     code: &[Part],
     calls: &Calls,
-    heap: &HeapEntries,
+    heap: &[HeapEntry],
     text: u32,
     places: &[u32],
 ) -> Result<Sites, AllocError>
@@ -274,7 +264,7 @@ pub fn read_sites(
     segments: &[Segment],
     code: &[Part],
     calls: &Calls,
-    heap: &HeapEntries,
+    heap: &[HeapEntry],
     text: u32,
 ) -> Result<Sites, AllocError>
     requires code { IsCode file.now segments.now code.now }

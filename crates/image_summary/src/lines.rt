@@ -1,9 +1,10 @@
 // Writes the summary of an image, line by line.
 
 ghost use Rattle.std.specs.Prelude.{◌≡◌, ◌++◌, codes, flat_map, if◌then◌else◌, IfOk, OnOk};
+ghost use Rattle.elf_spec.specs.Heap.{heap_entry};
 ghost use Rattle.image_summary.specs.Summary.{IsSummary, entry_line, exec_line, heap_line, heap_lines, site_line};
 
-use exec_image::{Exec, HeapName, Image, Site};
+use exec_image::{Exec, HEAP_NAMES, HeapName, Image, Site};
 use std::alloc::{AllocError, Global};
 use text_fields::{push_decimal, push_hex};
 
@@ -70,22 +71,21 @@ fn write_heap_name(out: &mut Vec<u8>, name: HeapName, entry: Option<u32>) -> Res
     Ok(())
 }
 
+/// Writes those of these heap functions that the image has.
+fn write_names(out: &mut Vec<u8>, image: &Image, names: &[HeapName]) -> Result<(), AllocError>
+    ensures { OnOk result (out.new.items
+        ≡ out.old.items ++ flat_map (λ name. heap_line name (heap_entry image.now name)) names.now) }
+{
+    for name in names {
+        write_heap_name(out, *name, image.heap_entry(*name))?;
+    }
+    Ok(())
+}
+
 fn write_heap(out: &mut Vec<u8>, image: &Image) -> Result<(), AllocError>
     ensures { OnOk result (out.new.items ≡ out.old.items ++ heap_lines image.now) }
 {
-    write_heap_name(out, HeapName::Malloc, image.heap_entry(HeapName::Malloc))?;
-    write_heap_name(out, HeapName::Calloc, image.heap_entry(HeapName::Calloc))?;
-    write_heap_name(out, HeapName::Realloc, image.heap_entry(HeapName::Realloc))?;
-    write_heap_name(out, HeapName::Free, image.heap_entry(HeapName::Free))?;
-    write_heap_name(out, HeapName::MallocR, image.heap_entry(HeapName::MallocR))?;
-    write_heap_name(out, HeapName::CallocR, image.heap_entry(HeapName::CallocR))?;
-    write_heap_name(
-        out,
-        HeapName::ReallocR,
-        image.heap_entry(HeapName::ReallocR),
-    )?;
-    write_heap_name(out, HeapName::FreeR, image.heap_entry(HeapName::FreeR))?;
-    Ok(())
+    write_names(out, image, &HEAP_NAMES)
 }
 
 fn kind_of(pair: bool) -> &'static str

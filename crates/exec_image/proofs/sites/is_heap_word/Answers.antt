@@ -1,4 +1,4 @@
--- The four functions are all.
+-- The entries stand for the addresses that are given.
 use Rattle.std.proofs.Common.{◌∙◌}
 use Rattle.exec_image.proofs.HeapWords.{heap_word}
 use Rattle.exec_image.proofs.sites.is_heap_word.Goals as goal
