@@ -9,25 +9,13 @@ ghost use Rattle.exec_image.specs.Accepted.{AcceptedFacts};
 
 use crate::patches::push_word;
 use elf_spec::{HeapName, Patch};
-use exec_image::Image;
+use exec_image::{HEAP_NAMES, Image};
 use heap_code::HeapImage;
 use site_stubs::far_jump;
 use std::alloc::AllocError;
 
 /// The register through which a function goes to its heap word.
 const T0: u8 = 5;
-
-/// All heap functions, in the order in which they are looked at.
-const HEAP_NAMES: [HeapName; 8] = [
-    HeapName::Malloc,
-    HeapName::Calloc,
-    HeapName::Realloc,
-    HeapName::Free,
-    HeapName::MallocR,
-    HeapName::CallocR,
-    HeapName::ReallocR,
-    HeapName::FreeR,
-];
 
 /// Whether the executable has one of these functions.
 fn has_some(image: &Image, names: &[HeapName]) -> bool

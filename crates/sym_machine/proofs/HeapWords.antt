@@ -2,8 +2,6 @@
 use Rattle.std.proofs.Common.{◌≡◌, ℕ, ◌+◌, ◌==◌, ◌||◌, List, [], ◌∷◌, refl, sym, ap, Option, Some, None}
 use Rattle.std.specs.List.{filter_map, list_any}
 use Rattle.elf_spec.specs.declared.HeapName.{HeapName}
-use Rattle.elf_spec.specs.declared.HeapName.TheVariants.{Malloc, Calloc, Realloc, Free, MallocR, CallocR, ReallocR}
-use Rattle.elf_spec.specs.declared.HeapName.TheVariants.{FreeR}
 use Rattle.elf_spec.specs.Heap.{heap_entries, heap_entry, heap_names}
 use Rattle.sym_machine.specs.Heap.{is_behind}
 
@@ -19,8 +17,6 @@ any_given a f (n ∷ names) = decide (f n) refl (any_given a f names)
     decide None h ih = rw h ih
 
 pub second_words : (file : List ℕ) (a : ℕ)
-    → list_any (is_behind a) (heap_entry file Malloc ∷ heap_entry file Calloc ∷ heap_entry file Realloc
-    ∷ heap_entry file Free ∷ heap_entry file MallocR ∷ heap_entry file CallocR ∷ heap_entry file ReallocR
-    ∷ heap_entry file FreeR ∷ []) ≡ list_any (λ e. e + 4 == a) (heap_entries file)
+    → list_any (λ name. is_behind a (heap_entry file name)) heap_names ≡ list_any (λ e. e + 4 == a) (heap_entries file)
 unfolding heap_entries
 second_words file a = sym (any_given a (heap_entry file) heap_names)

@@ -9,22 +9,10 @@ ghost use Rattle.sym_spec.specs.SymTurns.{is_pair, is_second};
 ghost use Rattle.sym_machine.specs.Found.{found_at, mask_of, IsKept, NamesThere};
 ghost use Rattle.sym_machine.specs.Heap.{is_behind};
 
-use exec_image::{HeapName, Image};
+use exec_image::{HEAP_NAMES, HeapName, Image};
 use plan_core::{Plan, PlanLine};
 use rv_isa::{Instr, decode};
 use site_spec::Site;
-
-/// The names of the heap functions, in the order in which they are looked at.
-const HEAP_NAMES: [HeapName; 8] = [
-    HeapName::Malloc,
-    HeapName::Calloc,
-    HeapName::Realloc,
-    HeapName::Free,
-    HeapName::MallocR,
-    HeapName::CallocR,
-    HeapName::ReallocR,
-    HeapName::FreeR,
-];
 
 /// What stands at an address.
 #[derive(Clone, Copy, Debug)]
@@ -190,27 +178,17 @@ fn is_pair(site: Option<Site>) -> bool
 }
 
 /// Whether an address is that of the second word of a heap function.
-#[tactic(auto, using(crate::proofs::HeapWords::second_words))]
 fn is_heap_second(image: &Image, addr: u32) -> bool
     ensures { result ≡ list_any (λ e. e + 4 == addr) (heap_entries image.now) }
 {
-    let entries = [
-        image.heap_entry(HeapName::Malloc),
-        image.heap_entry(HeapName::Calloc),
-        image.heap_entry(HeapName::Realloc),
-        image.heap_entry(HeapName::Free),
-        image.heap_entry(HeapName::MallocR),
-        image.heap_entry(HeapName::CallocR),
-        image.heap_entry(HeapName::ReallocR),
-        image.heap_entry(HeapName::FreeR),
-    ];
-    is_behind_one(&entries, addr)
+    is_behind_one(image, &HEAP_NAMES, addr)
 }
 
-fn is_behind_one(entries: &[Option<u32>], addr: u32) -> bool
-    ensures { result ≡ list_any (is_behind addr) entries.now }
+/// Whether an address is that of the second word of one of these heap functions.
+fn is_behind_one(image: &Image, names: &[HeapName], addr: u32) -> bool
+    ensures { result ≡ list_any (λ name. is_behind addr (heap_entry image.now name)) names.now }
 {
-    entries.iter().any(|entry| is_behind(*entry, addr))
+    names.iter().any(|name| is_behind(image.heap_entry(*name), addr))
 }
 
 /// Whether an address is that of the word behind an entry.
