@@ -4,7 +4,10 @@ pub mod HeapChecks
 pub mod Refusals
 pub mod CodeParts
 pub mod Calls
+pub mod HeapFunctions
+pub mod Sources
 pub mod Images
+pub mod Found
 pub mod IsImage
 pub mod PlanFaults
 pub mod Accepted

@@ -1,21 +1,19 @@
 // Accepts a file as an executable, or finds the first check that it fails.
 
 ghost use Rattle.std.specs.Prelude.{◌≡◌, ◌≢◌, ◌<◌, ◌^◌, Err, length};
-ghost use Rattle.elf_read.specs.Elf.{IsReadFrom};
 ghost use Rattle.first_check.specs.Answers.{Says};
-ghost use Rattle.exec_image.specs.CodeParts.{IsCode, IsHeap};
+ghost use Rattle.exec_image.specs.Found.{AreFound};
 ghost use Rattle.exec_image.specs.Images.{GivesImage};
 ghost use Rattle.exec_image.specs.Refusals.{rest_refusal};
 
 use crate::code::read_code;
-use crate::heap::{HeapEntry, check_places, check_sizes, read_heap};
-use crate::image::{Image, image_of};
+use crate::heap::{HeapFunctions, check_places, check_sizes, read_heap};
+use crate::image::{FoundParts, Image, image_of};
 use crate::layout::{check_entry, check_outside, check_words};
-use crate::parts::Part;
 use crate::refusals::FileRefusal;
 use crate::segments::{check_mark, check_room};
 use crate::tp::check_tp;
-use elf_read::{Elf, ElfRefusal, read_elf};
+use elf_read::{ElfRefusal, read_elf};
 use reloc_table::{RelocRefusal, read_relocs};
 use std::alloc::Global;
 
@@ -43,17 +41,20 @@ fn of_relocs(why: RelocRefusal) -> FileRefusal
 
 /// The checks of the entry, the heap functions, the segments and the code's registers.
 #[tactic(auto, using(crate::proofs::Headers::count_segments))]
-fn check_image(file: &[u8], elf: &Elf, code: &[Part], heap: &[HeapEntry]) -> Result<(), FileRefusal>
-    requires read { IsReadFrom elf.now file.now }
-    requires code { IsCode file.now elf.now.segments code.now }
-    requires heap { IsHeap file.now heap.now }
+fn check_image(file: &[u8], found: &FoundParts) -> Result<(), FileRefusal>
+    requires { AreFound file.now found.now }
     ensures { Says result (rest_refusal file.now) }
 {
-    let segments = elf.segments.as_slice();
-    let symbols = elf.symbols.as_slice();
-    check_entry(file, segments, code, elf.entry)?;
-    check_places(file, symbols, heap)?;
-    check_sizes(file, segments, code, symbols, heap)?;
+    let segments = found.elf.segments.as_slice();
+    let code = found.code.as_slice();
+    let heap = HeapFunctions {
+        file,
+        symbols: found.elf.symbols.as_slice(),
+        entries: found.heap.as_slice(),
+    };
+    check_entry(file, segments, code, found.elf.entry)?;
+    check_places(&heap)?;
+    check_sizes(&heap, segments, code)?;
     check_mark(file, segments)?;
     check_room(file, segments)?;
     check_tp(file, segments, code)
@@ -83,8 +84,9 @@ pub fn accept(alloc: Global, file: &[u8]) -> Result<Image, FileRefusal>
     let Ok(heap) = read_heap(alloc, file, elf.symbols.as_slice()) else {
         return Err(FileRefusal::Memory);
     };
-    check_image(file, &elf, &code, &heap)?;
-    match image_of(alloc, file, elf, relocs.entries_once(), code, heap) {
+    let found = FoundParts { elf, code, heap };
+    check_image(file, &found)?;
+    match image_of(alloc, file, found, relocs.entries_once()) {
         Ok(image) => Ok(image),
         Err(_) => Err(FileRefusal::Memory),
     }

@@ -8,6 +8,7 @@ ghost use Rattle.elf_spec.specs.Tables.{symbol_name, symbols_of};
 ghost use Rattle.first_check.specs.First.{first_item, when};
 ghost use Rattle.first_check.specs.Answers.{Says};
 ghost use Rattle.exec_image.specs.HeapChecks.{has_two_values, is_overlap, is_small, is_twice, lacks_words};
+ghost use Rattle.exec_image.specs.HeapFunctions.{AreHeapFunctions};
 ghost use Rattle.exec_image.specs.CodeParts.{IsCode, IsHeap, entry_of};
 ghost use Rattle.exec_image.specs.Refusals.{heap_entry_small, heap_entry_twice, small_fault, twice_fault};
 ghost use Rattle.exec_image.specs.declared.refusals.FileRefusal.TheVariants.{HeapEntrySmall, HeapEntryTwice};
@@ -146,6 +147,14 @@ fn has_two_values(file: &[u8], symbols: &[Symbol], name: HeapName, entry: Option
     }
 }
 
+/// The heap functions of an executable, with the bytes and symbols that they were read from.
+#[derive(Clone, Copy)]
+pub struct HeapFunctions<'a> {
+    pub file: &'a [u8],
+    pub symbols: &'a [Symbol],
+    pub entries: &'a [HeapEntry],
+}
+
 /// Whether two heap functions have one of their eight bytes in common.
 fn is_overlap(first: Option<u32>, second: Option<u32>) -> bool
     ensures { result ≡ is_overlap first second }
@@ -166,49 +175,37 @@ fn meets_one(file: &[u8], heap: &[HeapEntry], before: &[HeapName], entry: Option
 
 /// Checks that a heap function has one place, which none of those before has.
 #[tactic(auto, unfolding(crate::specs::HeapChecks::is_twice))]
-fn check_place(
-    file: &[u8],
-    symbols: &[Symbol],
-    heap: &[HeapEntry],
-    before: &[HeapName],
-    name: HeapName,
-) -> Result<(), FileRefusal>
-    requires symbols { symbols.now ≡ symbols_of file.now }
-    requires heap { IsHeap file.now heap.now }
-    ensures { Says result (when (is_twice file.now before.now name) (HeapEntryTwice name)) }
+fn check_place(heap: &HeapFunctions, before: &[HeapName], name: HeapName) -> Result<(), FileRefusal>
+    requires { AreHeapFunctions heap.now }
+    ensures { Says result (when (is_twice heap.now.file.now before.now name) (HeapEntryTwice name)) }
 {
-    let entry = entry_in(file, heap, name);
-    if has_two_values(file, symbols, name, entry) || meets_one(file, heap, before, entry) {
+    let entry = entry_in(heap.file, heap.entries, name);
+    if has_two_values(heap.file, heap.symbols, name, entry)
+        || meets_one(heap.file, heap.entries, before, entry)
+    {
         return Err(FileRefusal::HeapEntryTwice(name));
     }
     Ok(())
 }
 
 /// Checks that each of these functions has one place of its own.
-fn check_places_of(
-    file: &[u8],
-    symbols: &[Symbol],
-    heap: &[HeapEntry],
-    names: &[HeapName],
-) -> Result<(), FileRefusal>
-    requires symbols { symbols.now ≡ symbols_of file.now }
-    requires heap { IsHeap file.now heap.now }
-    ensures { Says result (first_item (twice_fault file.now names.now) names.now) }
+fn check_places_of(heap: &HeapFunctions, names: &[HeapName]) -> Result<(), FileRefusal>
+    requires { AreHeapFunctions heap.now }
+    ensures { Says result (first_item (twice_fault heap.now.file.now names.now) names.now) }
 {
     for i in 0..names.len() {
-        check_place(file, symbols, heap, &names[..i], names[i])?;
+        check_place(heap, &names[..i], names[i])?;
     }
     Ok(())
 }
 
 /// Checks that each heap function has one place of its own.
 #[tactic(auto, unfolding(crate::specs::Refusals::heap_entry_twice))]
-pub fn check_places(file: &[u8], symbols: &[Symbol], heap: &[HeapEntry]) -> Result<(), FileRefusal>
-    requires symbols { symbols.now ≡ symbols_of file.now }
-    requires heap { IsHeap file.now heap.now }
-    ensures { Says result (heap_entry_twice file.now) }
+pub fn check_places(heap: &HeapFunctions) -> Result<(), FileRefusal>
+    requires { AreHeapFunctions heap.now }
+    ensures { Says result (heap_entry_twice heap.now.file.now) }
 {
-    check_places_of(file, symbols, heap, &HEAP_NAMES)
+    check_places_of(heap, &HEAP_NAMES)
 }
 
 /// Whether one of the two words at an address is no code word.
@@ -253,20 +250,18 @@ fn has_small_size(file: &[u8], symbols: &[Symbol], name: HeapName) -> bool
 /// Checks that a heap function has two words.
 #[tactic(auto, using(crate::proofs::HeapSymbols::small_symbols), unfolding(crate::specs::HeapChecks::is_small))]
 fn check_size(
-    file: &[u8],
+    heap: &HeapFunctions,
     segments: &[Segment],
     code: &[Part],
-    symbols: &[Symbol],
-    heap: &[HeapEntry],
     name: HeapName,
 ) -> Result<(), FileRefusal>
-    requires code { IsCode file.now segments.now code.now }
-    requires symbols { symbols.now ≡ symbols_of file.now }
-    requires heap { IsHeap file.now heap.now }
-    ensures { Says result (when (is_small file.now name) (HeapEntrySmall name)) }
+    requires code { IsCode heap.now.file.now segments.now code.now }
+    requires heap { AreHeapFunctions heap.now }
+    ensures { Says result (when (is_small heap.now.file.now name) (HeapEntrySmall name)) }
 {
-    if lacks_words(file, segments, code, entry_in(file, heap, name))
-        || has_small_size(file, symbols, name)
+    let entry = entry_in(heap.file, heap.entries, name);
+    if lacks_words(heap.file, segments, code, entry)
+        || has_small_size(heap.file, heap.symbols, name)
     {
         return Err(FileRefusal::HeapEntrySmall(name));
     }
@@ -275,20 +270,17 @@ fn check_size(
 
 /// Checks that each of these functions has two words.
 fn check_sizes_of(
-    file: &[u8],
+    heap: &HeapFunctions,
     segments: &[Segment],
     code: &[Part],
-    symbols: &[Symbol],
-    heap: &[HeapEntry],
     names: &[HeapName],
 ) -> Result<(), FileRefusal>
-    requires code { IsCode file.now segments.now code.now }
-    requires symbols { symbols.now ≡ symbols_of file.now }
-    requires heap { IsHeap file.now heap.now }
-    ensures { Says result (first_item (small_fault file.now) names.now) }
+    requires code { IsCode heap.now.file.now segments.now code.now }
+    requires heap { AreHeapFunctions heap.now }
+    ensures { Says result (first_item (small_fault heap.now.file.now) names.now) }
 {
     for name in names {
-        check_size(file, segments, code, symbols, heap, *name)?;
+        check_size(heap, segments, code, *name)?;
     }
     Ok(())
 }
@@ -296,16 +288,13 @@ fn check_sizes_of(
 /// Checks that each heap function has two words.
 #[tactic(auto, unfolding(crate::specs::Refusals::heap_entry_small))]
 pub fn check_sizes(
-    file: &[u8],
+    heap: &HeapFunctions,
     segments: &[Segment],
     code: &[Part],
-    symbols: &[Symbol],
-    heap: &[HeapEntry],
 ) -> Result<(), FileRefusal>
-    requires code { IsCode file.now segments.now code.now }
-    requires symbols { symbols.now ≡ symbols_of file.now }
-    requires heap { IsHeap file.now heap.now }
-    ensures { Says result (heap_entry_small file.now) }
+    requires code { IsCode heap.now.file.now segments.now code.now }
+    requires heap { AreHeapFunctions heap.now }
+    ensures { Says result (heap_entry_small heap.now.file.now) }
 {
-    check_sizes_of(file, segments, code, symbols, heap, &HEAP_NAMES)
+    check_sizes_of(heap, segments, code, &HEAP_NAMES)
 }

@@ -15,7 +15,7 @@ ghost use Rattle.site_spec.specs.declared.Site.{Site as Call};
 ghost use Rattle.site_spec.specs.Places.{text_at};
 ghost use Rattle.site_spec.specs.Sites.{call_at, code_at, is_call_of_code, is_heap_word, site_at};
 ghost use Rattle.exec_image.specs.Accepted.{AcceptedFacts};
-ghost use Rattle.exec_image.specs.CodeParts.{IsCode, IsHeap};
+ghost use Rattle.exec_image.specs.Found.{AreFound};
 ghost use Rattle.exec_image.specs.Images.{AreSites, IsAccepted, execs_of, file_part, is_loaded_one};
 
 use crate::calls::read_calls;
@@ -26,7 +26,7 @@ use crate::heap::{HeapEntry, entry_in};
 use crate::laws::accepted_files_keep_their_facts;
 use crate::parts::Part;
 use crate::segments::text_place;
-use crate::sites::{Sites, find_site, is_heap_word, read_sites};
+use crate::sites::{SiteSources, Sites, find_site, is_heap_word, read_sites};
 use elf_read::Elf;
 use elf_spec::{HeapName, Reloc};
 use site_spec::Site;
@@ -57,36 +57,65 @@ impl Model for Image {
     ghost invariant = { λ a. IsImage a };
 }
 
+/// What is read of a file before it is accepted: its headers and symbols, the parts of its memory with code, in
+/// order, and its heap functions.
+#[derive(Drop)]
+pub struct FoundParts {
+    pub elf: Elf,
+    pub code: Vec<Part>,
+    pub heap: Vec<HeapEntry>,
+}
+
+/// The sites of an accepted file; `relocs` are its entries in any order.
+#[tactic(auto, using(crate::proofs::Passed::accepted_end, crate::proofs::CallKinds::calls_same))]
+fn sites_of(
+    alloc: Global,
+    file: &[u8],
+    found: &FoundParts,
+    relocs: &[Reloc],
+) -> Result<Sites, AllocError>
+    requires accepted { IsAccepted file.now }
+    requires found { AreFound file.now found.now }
+    requires relocs { (p : Reloc → Bool) → list_any p relocs.now ≡ list_any p (relocs_of file.now) }
+    ensures { IfOk result (AreSites file.now) }
+{
+    let calls = read_calls(alloc, relocs)?;
+    let segments = found.elf.segments.as_slice();
+    let text = text_place(file, segments);
+    let sources = SiteSources {
+        file,
+        segments,
+        code: found.code.as_slice(),
+        calls: &calls,
+        heap: found.heap.as_slice(),
+        text,
+    };
+    read_sites(alloc, &sources)
+}
+
 /// The image of an accepted file, from what was read of it; `relocs` are its entries in any order.
-#[tactic(auto, using(crate::proofs::Headers::few_sections, crate::proofs::Passed::accepted_end, crate::proofs::CallKinds::calls_same), unfolding(crate::specs::Images::execs_of))]
+#[tactic(auto, using(crate::proofs::Headers::few_sections), unfolding(crate::specs::Images::execs_of))]
 pub fn image_of(
     alloc: Global,
     file: &[u8],
-    elf: Elf,
+    found: FoundParts,
     relocs: &[Reloc],
-    code: Vec<Part>,
-    heap: Vec<HeapEntry>,
 ) -> Result<Image, AllocError>
     requires accepted { IsAccepted file.now }
-    requires read { IsReadFrom elf file.now }
+    requires found { AreFound file.now found }
     requires relocs { (p : Reloc → Bool) → list_any p relocs.now ≡ list_any p (relocs_of file.now) }
-    requires code { IsCode file.now elf.segments code.items }
-    requires heap { IsHeap file.now heap.items }
     ensures { IfOk result (λ image. image ≡ file.now) }
 {
-    let calls = read_calls(alloc, relocs)?;
-    let execs = read_execs(alloc, elf.sections.as_slice())?;
-    let segments = elf.segments.as_slice();
-    let text = text_place(file, segments);
-    let sites = read_sites(alloc, file, segments, &code, &calls, &heap, text)?;
+    let sites = sites_of(alloc, file, &found, relocs)?;
+    let execs = read_execs(alloc, found.elf.sections.as_slice())?;
     let mut bytes = Vec::with_capacity(alloc, file.len())?;
     bytes.extend_from_slice(file)?;
     Ok(Image {
         file: bytes,
-        elf,
+        elf: found.elf,
         execs,
-        code,
-        heap,
+        code: found.code,
+        heap: found.heap,
         sites,
     })
 }

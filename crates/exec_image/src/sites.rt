@@ -12,6 +12,7 @@ ghost use Rattle.rv_isa.specs.Addresses.{plus};
 ghost use Rattle.site_spec.specs.Places.{reaches, stub_at, text_at};
 ghost use Rattle.site_spec.specs.Sites.{call_at, code_at, is_call_of_code, is_heap_word, reaches_all_stubs, site_at};
 ghost use Rattle.exec_image.specs.CodeParts.{IsCode, IsHeap};
+ghost use Rattle.exec_image.specs.Sources.{AreSources};
 ghost use Rattle.exec_image.specs.Images.{AreSites};
 
 use crate::calls::{Calls, is_among};
@@ -26,6 +27,18 @@ use vec_list::VecList;
 
 /// Sites by address.
 pub type Sites = VecList<Site>;
+
+/// What the sites of an executable are found by: its bytes, its segments, the parts of its memory with code,
+/// the places of its entries for calls, its heap functions, and where a new text would stand.
+#[derive(Clone, Copy)]
+pub struct SiteSources<'a> {
+    pub file: &'a [u8],
+    pub segments: &'a [Segment],
+    pub code: &'a [Part],
+    pub calls: &'a Calls,
+    pub heap: &'a [HeapEntry],
+    pub text: u32,
+}
 
 /// The register that a call leaves its return address in.
 const RA: u8 = 1;
@@ -72,21 +85,19 @@ fn reaches_all_stubs(file: &[u8], text: u32, addr: u32) -> bool
 
 /// The site of a JAL with rd = ra at an address, where an entry for it applies there.
 #[tactic(auto, unfolding(site_spec::specs::Sites::call_at))]
-fn jal_site(file: &[u8], calls: &Calls, text: u32, addr: u32, imm: u32) -> Option<Site>
-    requires calls { AreCalls (relocs_of file.now) calls.now }
-    requires room { text ≤ 0x70001000 }
-    requires text { text ≡ text_at file.now }
+fn jal_site(from: &SiteSources, addr: u32, imm: u32) -> Option<Site>
+    requires sources { AreSources from.now }
     requires low { addr + 4 ≤ 0x7ff00000 }
-    ensures exact { result ≡ call_at file.now addr (Some (Jal 1 imm)) None }
+    ensures exact { result ≡ call_at from.now.file.now addr (Some (Jal 1 imm)) None }
     ensures addr { IfSome result (λ s. s.addr ≡ addr) }
 {
-    if is_among(calls.jals.as_slice(), addr) {
+    if is_among(from.calls.jals.as_slice(), addr) {
         Some(Site {
             addr,
             target: addr.wrapping_add(imm),
             back: addr + 4,
             pair: false,
-            near: reaches_all_stubs(file, text, addr),
+            near: reaches_all_stubs(from.file, from.text, addr),
         })
     } else {
         None
@@ -118,34 +129,25 @@ fn pair_site(file: &[u8], calls: &Calls, addr: u32, distance: u32) -> Option<Sit
 
 /// The call at an address, where there is one with its entry.
 #[tactic(auto, unfolding(site_spec::specs::Sites::call_at))]
-fn call_at(
-    file: &[u8],
-    segments: &[Segment],
-    code: &[Part],
-    calls: &Calls,
-    text: u32,
-    addr: u32,
-) -> Option<Site>
-    requires code { IsCode file.now segments.now code.now }
-    requires calls { AreCalls (relocs_of file.now) calls.now }
-    requires room { text ≤ 0x70001000 }
-    requires text { text ≡ text_at file.now }
-    ensures exact { result ≡ call_at file.now addr (code_at file.now addr) (code_at file.now (addr + 4)) }
+fn call_at(from: &SiteSources, addr: u32) -> Option<Site>
+    requires { AreSources from.now }
+    ensures exact { result ≡ call_at from.now.file.now addr (code_at from.now.file.now addr)
+        (code_at from.now.file.now (addr + 4)) }
     ensures low { IfSome result (λ s. s.addr + 4 ≤ 0x7ff00000) }
 {
-    match code_at(file, segments, code, addr)? {
+    match code_at(from.file, from.segments, from.code, addr)? {
         Instr::Jal { rd, imm } => if rd == RA {
-            jal_site(file, calls, text, addr, imm)
+            jal_site(from, addr, imm)
         } else {
             None
         },
-        Instr::Auipc { rd, imm } => match code_at(file, segments, code, addr + 4)? {
+        Instr::Auipc { rd, imm } => match code_at(from.file, from.segments, from.code, addr + 4)? {
             Instr::Jalr {
                 rd: link,
                 rs1,
                 imm: low,
             } => if rd == RA && link == RA && rs1 == RA {
-                pair_site(file, calls, addr, imm.wrapping_add(low))
+                pair_site(from.file, from.calls, addr, imm.wrapping_add(low))
             } else {
                 None
             },
@@ -180,43 +182,24 @@ pub fn is_heap_word(file: &[u8], heap: &[HeapEntry], addr: u32) -> bool
 }
 
 /// Whether a call goes to a code word, and from words that are no heap function's.
-fn is_call_of_code(
-    file: &[u8],
-    segments: &[Segment],
-    code: &[Part],
-    heap: &[HeapEntry],
-    s: &Site,
-) -> bool
-    requires code { IsCode file.now segments.now code.now }
-    requires heap { IsHeap file.now heap.now }
+fn is_call_of_code(from: &SiteSources, s: &Site) -> bool
+    requires sources { AreSources from.now }
     requires low { s.now.addr + 4 ≤ 0x7ff00000 }
-    ensures { result ≡ is_call_of_code file.now s.now }
+    ensures { result ≡ is_call_of_code from.now.file.now s.now }
 {
-    is_code_word(file, segments, code, s.target)
-        && !is_heap_word(file, heap, s.addr)
-        && (!s.pair || !is_heap_word(file, heap, s.addr + 4))
+    is_code_word(from.file, from.segments, from.code, s.target)
+        && !is_heap_word(from.file, from.heap, s.addr)
+        && (!s.pair || !is_heap_word(from.file, from.heap, s.addr + 4))
 }
 
 /// The site at an address.
 #[tactic(auto, unfolding(site_spec::specs::Sites::site_at))]
-fn site_at(
-    file: &[u8],
-    segments: &[Segment],
-    code: &[Part],
-    calls: &Calls,
-    heap: &[HeapEntry],
-    text: u32,
-    addr: u32,
-) -> Option<Site>
-    requires code { IsCode file.now segments.now code.now }
-    requires calls { AreCalls (relocs_of file.now) calls.now }
-    requires heap { IsHeap file.now heap.now }
-    requires room { text ≤ 0x70001000 }
-    requires text { text ≡ text_at file.now }
-    ensures { result ≡ site_at file.now addr }
+fn site_at(from: &SiteSources, addr: u32) -> Option<Site>
+    requires { AreSources from.now }
+    ensures { result ≡ site_at from.now.file.now addr }
 {
-    let s = call_at(file, segments, code, calls, text, addr)?;
-    if is_call_of_code(file, segments, code, heap, &s) {
+    let s = call_at(from, addr)?;
+    if is_call_of_code(from, &s) {
         Some(s)
     } else {
         None
@@ -225,30 +208,17 @@ fn site_at(
 
 /// The sites at these addresses, which have all sites of the file and ascend.
 #[tactic(auto, using(crate::proofs::SiteSteps::start, crate::proofs::SiteSteps::skip, crate::proofs::SiteSteps::none, crate::proofs::SiteSteps::some, crate::proofs::SiteSteps::finish))]
-fn sites_at(
-    alloc: Global,
-    file: &[u8],
-    segments: &[Segment],
-    code: &[Part],
-    calls: &Calls,
-    heap: &[HeapEntry],
-    text: u32,
-    places: &[u32],
-) -> Result<Sites, AllocError>
-    requires code { IsCode file.now segments.now code.now }
-    requires calls { AreCalls (relocs_of file.now) calls.now }
-    requires heap { IsHeap file.now heap.now }
-    requires room { text ≤ 0x70001000 }
-    requires text { text ≡ text_at file.now }
+fn sites_at(alloc: Global, from: &SiteSources, places: &[u32]) -> Result<Sites, AllocError>
+    requires sources { AreSources from.now }
     requires rise { IsNonDecreasing places.now }
-    requires all { (a : ℕ) (s : Site) → site_at file.now a ≡ Some s → list_any (λ p. p == a) places.now ≡ true }
-    ensures { IfOk result (AreSites file.now) }
+    requires all { (a : ℕ) (s : Site) → site_at from.now.file.now a ≡ Some s → list_any (λ p. p == a) places.now ≡ true }
+    ensures { IfOk result (AreSites from.now.file.now) }
 {
     let mut list = Sites::new(alloc);
     let mut next: u64 = 0;
     for p in places {
         if *p as u64 >= next {
-            if let Some(s) = site_at(file, segments, code, calls, heap, text, *p) {
+            if let Some(s) = site_at(from, *p) {
                 list.push(s)?;
             }
             next = *p as u64 + 1;
@@ -258,24 +228,11 @@ fn sites_at(
 }
 
 /// All sites, by address.
-pub fn read_sites(
-    alloc: Global,
-    file: &[u8],
-    segments: &[Segment],
-    code: &[Part],
-    calls: &Calls,
-    heap: &[HeapEntry],
-    text: u32,
-) -> Result<Sites, AllocError>
-    requires code { IsCode file.now segments.now code.now }
-    requires calls { AreCalls (relocs_of file.now) calls.now }
-    requires heap { IsHeap file.now heap.now }
-    requires room { text ≤ 0x70001000 }
-    requires text { text ≡ text_at file.now }
-    ensures { IfOk result (AreSites file.now) }
+pub fn read_sites(alloc: Global, from: &SiteSources) -> Result<Sites, AllocError>
+    requires { AreSources from.now }
+    ensures { IfOk result (AreSites from.now.file.now) }
 {
-    let places = calls.all.as_slice();
-    sites_at(alloc, file, segments, code, calls, heap, text, places)
+    sites_at(alloc, from, from.calls.all.as_slice())
 }
 
 /// The site at an address, among all sites by address.

@@ -5,4 +5,4 @@ use Rattle.exec_image.specs.Refusals.{twice_fault}
 use Rattle.exec_image.proofs.heap.check_places_of.Given as goal
 
 abbrev pub invariant-loop-i : goal.invariant-loop-i
-invariant-loop-i l = first_from (twice_fault l.file l.names) l.i (drop l.i l.names) ≡ first_item (twice_fault l.file l.names) l.names
+invariant-loop-i l = first_from (twice_fault l.heap.file.now l.names) l.i (drop l.i l.names) ≡ first_item (twice_fault l.heap.file.now l.names) l.names

@@ -5,4 +5,4 @@ use Rattle.exec_image.specs.Refusals.{small_fault}
 use Rattle.exec_image.proofs.heap.check_sizes_of.Given as goal
 
 abbrev pub invariant-loop-name : goal.invariant-loop-name
-invariant-loop-name l = first_from (small_fault l.file) l.name-index (drop l.name-index l.names) ≡ first_item (small_fault l.file) l.names
+invariant-loop-name l = first_from (small_fault l.heap.file.now) l.name-index (drop l.name-index l.names) ≡ first_item (small_fault l.heap.file.now) l.names

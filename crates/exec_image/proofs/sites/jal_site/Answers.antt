@@ -10,8 +10,8 @@ unfolding call_at
 returns-then-is_among-clause-exact c =
     let e : list_any (λ p. p == c.args.addr) c.as_slice.result.now ≡ true =
     sym c.is_among.ensures ∙ c.if-is_among.true in
-    let h : has_reloc (relocs_of c.args.file.now) 17 c.args.addr ≡ true =
-    sym (c.requires.calls.jals c.args.addr) ∙ rw c.as_slice.ensures.value at e in
+    let h : has_reloc (relocs_of c.args.from.now.file.now) 17 c.args.addr ≡ true =
+    sym (c.requires.sources.calls.jals c.args.addr) ∙ rw c.as_slice.ensures.value at e in
     rw (h, c.reaches_all_stubs.ensures) refl
 
 pub returns-else-is_among-clause-exact : goal.returns-else-is_among-clause-exact
@@ -19,6 +19,6 @@ unfolding call_at
 returns-else-is_among-clause-exact c =
     let e : list_any (λ p. p == c.args.addr) c.as_slice.result.now ≡ false =
     sym c.is_among.ensures ∙ c.if-is_among.false in
-    let h : has_reloc (relocs_of c.args.file.now) 17 c.args.addr ≡ false =
-    sym (c.requires.calls.jals c.args.addr) ∙ rw c.as_slice.ensures.value at e in
+    let h : has_reloc (relocs_of c.args.from.now.file.now) 17 c.args.addr ≡ false =
+    sym (c.requires.sources.calls.jals c.args.addr) ∙ rw c.as_slice.ensures.value at e in
     rw h refl

@@ -3,4 +3,4 @@ use Rattle.exec_image.proofs.SiteSteps.{AreBelow}
 use Rattle.exec_image.proofs.sites.sites_at.Given as goal
 
 abbrev pub invariant-loop-p : goal.invariant-loop-p
-invariant-loop-p l = AreBelow l.file l.places l.list l.next l.p-index
+invariant-loop-p l = AreBelow l.from.file.now l.places l.list l.next l.p-index
