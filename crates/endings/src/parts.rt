@@ -1,9 +1,10 @@
 // What the lines are made of: a text, a number or an address between texts.
 ghost use Rattle.std.specs.Prelude.{◌≡◌, ◌+◌, ◌≤◌, ◌++◌, length, codes, decimal};
-ghost use Rattle.text_fields.specs.Writing.{hex8, hex_digit};
+ghost use Rattle.text_fields.specs.Writing.{hex8};
 
 use arrayvec::ArrayString;
 use itoa::Buffer;
+use text_fields::hex_digits;
 
 /// A line on note, of at most 80 bytes. The longest has 59: `halo: file: section I entry E symbol out`
 /// with two numbers of ten digits.
@@ -55,25 +56,8 @@ pub fn push_address(line: &mut Line, word: u32)
     ensures exact { line.new.bytes ≡ line.old.bytes ++ hex8 word }
     ensures size { length line.new.bytes ≡ length line.old.bytes + 8 }
 {
-    line.push(digit(word / 0x1000_0000 % 16));
-    line.push(digit(word / 0x100_0000 % 16));
-    line.push(digit(word / 0x10_0000 % 16));
-    line.push(digit(word / 0x1_0000 % 16));
-    line.push(digit(word / 0x1000 % 16));
-    line.push(digit(word / 0x100 % 16));
-    line.push(digit(word / 0x10 % 16));
-    line.push(digit(word % 16));
-}
-
-fn digit(value: u32) -> char
-    requires { value ≤ 15 }
-    ensures digit { result ≡ hex_digit value }
-    ensures ascii { result ≤ 127 }
-{
-    let value = value as u8;
-    char::from(if value < 10 {
-        b'0' + value
-    } else {
-        b'a' - 10 + value
-    })
+    let digits = hex_digits(word);
+    for digit in digits {
+        line.push(char::from(digit));
+    }
 }
