@@ -6,7 +6,7 @@ use Rattle.elf_spec.specs.declared.Segment.{Segment}
 use Rattle.elf_spec.specs.declared.Section.{Section}
 use Rattle.elf_spec.specs.Fields.{word_bytes}
 use Rattle.rv_build.specs.declared.labels.Label.{Label}
-use Rattle.rv_build.specs.declared.places.Places.{Places}
+use Rattle.rv_build.specs.declared.offsets.Offsets.{Offsets}
 use Rattle.rv_build.specs.Parts.{Parts}
 use Rattle.rv_build.specs.RecordBytes.{half_bytes, segment_bytes, section_bytes, reloc_bytes, symbol_bytes}
 
@@ -53,8 +53,8 @@ abbrev pub sections_at : Parts → ℕ
 sections_at p = up4 (strings_at p + strings_size p)
 
 -- all of these
-abbrev pub places_of : Parts → Places
-places_of p = record {
+abbrev pub offsets_of : Parts → Offsets
+offsets_of p = record {
   relocs = relocs_at p;
   symbols = symbols_at p;
   strings = strings_at p;

@@ -2,7 +2,7 @@
 ghost use Rattle.std.specs.Prelude.{◌≡◌, ◌≤◌, OnOk, OnErr, IfOk};
 ghost use Rattle.rv_build.specs.Parts.{AreSmall, no_parts, with_word, with_symbol, with_reloc};
 ghost use Rattle.rv_build.specs.Reads.{Reads};
-ghost use Rattle.rv_build.specs.Built.{built_file, code_segment, code_size, places_of, sections_built};
+ghost use Rattle.rv_build.specs.Built.{built_file, code_segment, code_size, offsets_of, sections_built};
 
 use crate::fields::push_zeros;
 use crate::head::{
@@ -10,7 +10,7 @@ use crate::head::{
     push_file_header, push_segment,
 };
 use crate::labels::{Label, LabelList};
-use crate::places::{Places, names_size};
+use crate::offsets::{Offsets, names_size};
 use crate::sections::{CODE_FLAGS, NULL_SECTION, PROGBITS, RELA, STRTAB, SYMTAB, push_sections};
 use crate::tables::{
     RELOC_SIZE, SYMBOL_NAMES_AT, SYMBOL_SIZE, push_code, push_names, push_relocs, push_symbols,
@@ -107,7 +107,7 @@ impl Builder {
         requires { AreSmall self.now }
         ensures { IfOk result (λ file. file.items ≡ built_file self.now) }
     {
-        let at = self.places();
+        let at = self.offsets();
         let mut out = Vec::with_capacity(
             alloc,
             at.sections + usize::from(SECTION_SIZE * SECTIONS),
@@ -125,9 +125,9 @@ impl Builder {
     }
 
     /// Where the parts of the file begin.
-    fn places(&self) -> Places
+    fn offsets(&self) -> Offsets
         requires { AreSmall self.now }
-        ensures is { result ≡ places_of self.now }
+        ensures is { result ≡ offsets_of self.now }
         ensures low { result.sections ≤ 9000000 }
         ensures short { result.strings_size ≤ 70000 }
     {
@@ -135,7 +135,7 @@ impl Builder {
         let symbols = relocs + RELOC_SIZE * self.relocs.as_slice().len();
         let strings = symbols + SYMBOL_SIZE * (1 + self.symbols.as_slice().len());
         let strings_size = SYMBOL_NAMES_AT + names_size(self.symbols.as_slice());
-        Places {
+        Offsets {
             relocs,
             symbols,
             strings,
@@ -171,10 +171,10 @@ impl Builder {
         }
     }
 
-    /// The sections of a file whose parts stand at these places.
-    fn sections(&self, at: Places) -> [Section; 5]
+    /// The sections of a file whose parts stand at these offsets.
+    fn sections(&self, at: Offsets) -> [Section; 5]
         requires small { AreSmall self.now }
-        requires places { at ≡ places_of self.now }
+        requires offsets { at ≡ offsets_of self.now }
         requires low { at.strings_size ≤ 70000 }
         ensures { result ≡ sections_built self.now }
     {

@@ -9,7 +9,7 @@ mod generator;
 mod head;
 mod labels;
 mod laws;
-mod places;
+mod offsets;
 mod sections;
 mod tables;
 #[cfg(test)]

@@ -1,6 +1,6 @@
 // Where the parts of the file begin.
 ghost use Rattle.std.specs.Prelude.{◌≡◌, ◌+◌, ◌≤◌, ◌*◌, length, All};
-ghost use Rattle.rv_build.specs.Built.{places_of, symbol_names};
+ghost use Rattle.rv_build.specs.Built.{offsets_of, symbol_names};
 ghost use Rattle.rv_build.specs.Parts.{AreSmall};
 
 use crate::labels::Label;
@@ -8,7 +8,7 @@ use crate::labels::Label;
 /// File offsets of the parts behind the code, and the size of the strings without the bytes that fill
 /// them up to a multiple of 4.
 #[derive(Clone, Copy, Debug)]
-pub struct Places {
+pub struct Offsets {
     pub relocs: usize,
     pub symbols: usize,
     pub strings: usize,

@@ -1,6 +1,6 @@
 use Rattle.std.proofs.Common.{◌≡◌, ◌*◌, ◌≤◌, length, take}
 use Rattle.rv_build.specs.Built.{symbol_names}
-use Rattle.rv_build.proofs.places.names_size.Given as goal
+use Rattle.rv_build.proofs.offsets.names_size.Given as goal
 
 -- the size of the names so far
 abbrev pub invariant-loop-symbol : goal.invariant-loop-symbol
