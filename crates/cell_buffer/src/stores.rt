@@ -11,23 +11,41 @@ use crate::entry::{Entry, is_mixed};
 use rv_isa::Width;
 use sym_value::{Value, Whole};
 
+/// The four entries of a cell.
+#[derive(Clone, Copy)]
+struct CellEntries {
+    first: Entry,
+    second: Entry,
+    third: Entry,
+    fourth: Entry,
+}
+
+/// The entries of a cell whose bytes are unset.
+const BLANK: CellEntries = CellEntries {
+    first: Entry::Blank,
+    second: Entry::Blank,
+    third: Entry::Blank,
+    fourth: Entry::Blank,
+};
+
 /// Makes the four entries of the cell at `at`.
 #[inline(always)]
 #[tactic(auto, using(crate::proofs::EntryLaws::put_four, crate::proofs::EntryLaws::first_put))]
-fn put_cell(entries: &mut [Entry], at: usize, a: Entry, b: Entry, c: Entry, d: Entry)
+fn put_cell(entries: &mut [Entry], at: usize, cell: CellEntries)
     requires aligned { at % 4 ≡ 0 }
     requires inside { at + 4 ≤ length entries.old }
     ensures long { length entries.new ≡ length entries.old }
-    ensures first { first_of at entries.new ≡ a }
-    ensures cells { cells_of entries.new ≡ slice_set (cells_of entries.old) (at / 4) (cell_of a b c d) }
+    ensures first { first_of at entries.new ≡ cell.first }
+    ensures cells { cells_of entries.new ≡ slice_set (cells_of entries.old) (at / 4)
+        (cell_of cell.first cell.second cell.third cell.fourth) }
 {
     let second = at + 1;
     let third = second + 1;
     let fourth = third + 1;
-    entries[at] = a;
-    entries[second] = b;
-    entries[third] = c;
-    entries[fourth] = d;
+    entries[at] = cell.first;
+    entries[second] = cell.second;
+    entries[third] = cell.third;
+    entries[fourth] = cell.fourth;
 }
 
 /// Makes the cell at `at` a blank one.
@@ -38,14 +56,7 @@ fn blank(entries: &mut [Entry], at: usize)
     ensures open { is_mixed (first_of at entries.new) ≡ false }
     ensures cells { cells_of entries.new ≡ slice_set (cells_of entries.old) (at / 4) blank_cell }
 {
-    put_cell(
-        entries,
-        at,
-        Entry::Blank,
-        Entry::Blank,
-        Entry::Blank,
-        Entry::Blank,
-    );
+    put_cell(entries, at, BLANK);
 }
 
 /// Makes a mixed cell, whose first entry is at `at`, a blank one.
@@ -100,62 +111,89 @@ fn store_word(entries: &mut [Entry], at: usize, value: Value)
     ensures cells { cells_of entries.new ≡ store Width.Word at value (cells_of entries.old) }
 {
     match value {
-        Value::Num(word) => {
-            let second = word / 256;
-            let third = second / 256;
-            let fourth = third / 256;
-            put_cell(
-                entries,
-                at,
-                Entry::Known((word % 256) as u8),
-                Entry::Known((second % 256) as u8),
-                Entry::Known((third % 256) as u8),
-                Entry::Known((fourth % 256) as u8),
-            );
+        Value::Num(word) => store_number(entries, at, word),
+        Value::Ptr { block, offset } => store_pointer(entries, at, block, offset),
+        Value::Ret(address) => store_return(entries, at, address),
+        Value::Mix(low) => {
+            let cell = CellEntries {
+                first: Entry::Mixed(low),
+                ..BLANK
+            };
+            put_cell(entries, at, cell);
         }
-        Value::Ptr { block, offset } => put_cell(
-            entries,
-            at,
-            Entry::Ptr {
-                index: 0,
-                block,
-                offset,
-            },
-            Entry::Ptr {
-                index: 1,
-                block,
-                offset,
-            },
-            Entry::Ptr {
-                index: 2,
-                block,
-                offset,
-            },
-            Entry::Ptr {
-                index: 3,
-                block,
-                offset,
-            },
-        ),
-        Value::Ret(address) => put_cell(
-            entries,
-            at,
-            Entry::Ret { index: 0, address },
-            Entry::Ret { index: 1, address },
-            Entry::Ret { index: 2, address },
-            Entry::Ret { index: 3, address },
-        ),
-        Value::Mix(low) => put_cell(
-            entries,
-            at,
-            Entry::Mixed(low),
-            Entry::Blank,
-            Entry::Blank,
-            Entry::Blank,
-        ),
         Value::Part { .. } => blank(entries, at),
         Value::Unset => blank(entries, at),
     }
+}
+
+/// Stores a word that is a number.
+#[inline(always)]
+fn store_number(entries: &mut [Entry], at: usize, word: u32)
+    requires aligned { at % 4 ≡ 0 }
+    requires inside { at + 4 ≤ length entries.old }
+    ensures long { length entries.new ≡ length entries.old }
+    ensures cells { cells_of entries.new ≡ store Width.Word at (Value.Num word) (cells_of entries.old) }
+{
+    let second = word / 256;
+    let third = second / 256;
+    let fourth = third / 256;
+    let cell = CellEntries {
+        first: Entry::Known((word % 256) as u8),
+        second: Entry::Known((second % 256) as u8),
+        third: Entry::Known((third % 256) as u8),
+        fourth: Entry::Known((fourth % 256) as u8),
+    };
+    put_cell(entries, at, cell);
+}
+
+/// Stores a word that is a pointer.
+#[inline(always)]
+fn store_pointer(entries: &mut [Entry], at: usize, block: u32, offset: u32)
+    requires aligned { at % 4 ≡ 0 }
+    requires inside { at + 4 ≤ length entries.old }
+    ensures long { length entries.new ≡ length entries.old }
+    ensures cells { cells_of entries.new ≡ store Width.Word at (Value.Ptr block offset) (cells_of entries.old) }
+{
+    let cell = CellEntries {
+        first: Entry::Ptr {
+            index: 0,
+            block,
+            offset,
+        },
+        second: Entry::Ptr {
+            index: 1,
+            block,
+            offset,
+        },
+        third: Entry::Ptr {
+            index: 2,
+            block,
+            offset,
+        },
+        fourth: Entry::Ptr {
+            index: 3,
+            block,
+            offset,
+        },
+    };
+    put_cell(entries, at, cell);
+}
+
+/// Stores a word that is a return address.
+#[inline(always)]
+fn store_return(entries: &mut [Entry], at: usize, address: u32)
+    requires aligned { at % 4 ≡ 0 }
+    requires inside { at + 4 ≤ length entries.old }
+    ensures long { length entries.new ≡ length entries.old }
+    ensures cells { cells_of entries.new ≡ store Width.Word at (Value.Ret address) (cells_of entries.old) }
+{
+    let cell = CellEntries {
+        first: Entry::Ret { index: 0, address },
+        second: Entry::Ret { index: 1, address },
+        third: Entry::Ret { index: 2, address },
+        fourth: Entry::Ret { index: 3, address },
+    };
+    put_cell(entries, at, cell);
 }
 
 fn store_half(entries: &mut [Entry], at: usize, value: Value)

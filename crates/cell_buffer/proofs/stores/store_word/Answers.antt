@@ -2,18 +2,6 @@ use Rattle.std.proofs.Common.{◌∙◌}
 use Rattle.cell_buffer.proofs.EntryLaws.{word_done}
 use Rattle.cell_buffer.proofs.stores.store_word.Goals as goal
 
-pub returns-in-Num-clause-cells : goal.returns-in-Num-clause-cells
-returns-in-Num-clause-cells c =
-    rw c.in-Num.is (c.put_cell.ensures.cells ∙ word_done _ _ _ _ _ _ c.requires.aligned c.requires.inside)
-
-pub returns-in-Ptr-clause-cells : goal.returns-in-Ptr-clause-cells
-returns-in-Ptr-clause-cells c =
-    rw c.in-Ptr.is (c.put_cell-in-Ptr.ensures.cells ∙ word_done _ _ _ _ _ _ c.requires.aligned c.requires.inside)
-
-pub returns-in-Ret-clause-cells : goal.returns-in-Ret-clause-cells
-returns-in-Ret-clause-cells c =
-    rw c.in-Ret.is (c.put_cell-in-Ret.ensures.cells ∙ word_done _ _ _ _ _ _ c.requires.aligned c.requires.inside)
-
 pub returns-in-Part-clause-cells : goal.returns-in-Part-clause-cells
 returns-in-Part-clause-cells c =
     rw c.in-Part.is (c.blank.ensures.cells ∙ word_done _ _ _ _ _ _ c.requires.aligned c.requires.inside)
