@@ -4,11 +4,11 @@ use Rattle.std.proofs.Common.{arith}
 use Rattle.std.specs.Str.{bytes_eq}
 use Rattle.std.proofs.lemmas.Slice.Eq.{bytes_eq-Decides}
 use Rattle.endings.specs.declared.endings.Ending.{Ending}
-use Rattle.halo_words.specs.Table.{Shape, shape_named, the_table}
+use Rattle.halo_words.specs.Table.{CommandForm, shape_named, the_table}
 use Rattle.halo_words.specs.Grammar.{Asked, AsksFor}
 use Rattle.halo_cli.specs.World.{Outside, OnlyMoves}
 use Rattle.halo_cli.specs.Entry.{Entry}
-use Rattle.halo_cli.specs.Rewrite.{rewrite_entry}
+use Rattle.halo_cli.specs.RewriteCommand.{rewrite_entry}
 use Rattle.halo_cli.specs.Run.{run_entry}
 use Rattle.halo_cli.specs.Symbols.{symbols_entry}
 use Rattle.halo_cli.specs.Show.{show_entry}
@@ -90,11 +90,11 @@ stop_ends policies words (stop.Usage place) before wrong = inl (place, refl, inl
 stop_ends policies words stop.Memory before line = inr (inl (refl, line, refl))
 
 -- the word is that of one of the commands
-abbrev IsWordOf : List Shape → List ℕ → Type 0
+abbrev IsWordOf : List CommandForm → List ℕ → Type 0
 IsWordOf [] word = ⊥
 IsWordOf (shape ∷ shapes) word = (word ≡ shape.word) ⊎ IsWordOf shapes word
 
-among : (shapes : List Shape) (word : List ℕ) (shape : Shape) → shape_named shapes word ≡ Some shape
+among : (shapes : List CommandForm) (word : List ℕ) (shape : CommandForm) → shape_named shapes word ≡ Some shape
     → IsWordOf shapes word
 among [] word shape found = absurd (cc)
 among (first ∷ rest) word shape found = by (bytes_eq first.word word) refl (among rest word shape)

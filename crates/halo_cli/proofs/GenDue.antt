@@ -7,8 +7,8 @@ use Rattle.text_fields.specs.Reading.{number_of}
 use Rattle.rv_build.specs.Generated.{generated}
 use Rattle.endings.specs.declared.endings.Ending.TheVariants.{Done}
 use Rattle.halo_words.specs.declared.forms.Kind.TheVariants.{Number}
-use Rattle.halo_words.specs.Table.{Place, Shape, fits, is_plain, has_kind, is_at_least, shape_named, the_table}
-use Rattle.halo_words.specs.Table.{node_count}
+use Rattle.halo_words.specs.Table.{OperandRule, CommandForm, fits, is_plain, has_kind, is_at_least, shape_named}
+use Rattle.halo_words.specs.Table.{the_table, node_count}
 use Rattle.halo_words.specs.Grammar.{Asked, AsksFor, operand_in}
 use Rattle.halo_cli.specs.Generate.{gen_entry, nodes_in}
 use Rattle.halo_cli.proofs.CommandLaws.{Laws, text_laws}
@@ -25,7 +25,7 @@ gen_laws = text_laws (codes "gen")
     (λ given before now exit steps brings. cc)
 
 -- the command of the table
-abbrev gen_shape : Shape
+abbrev gen_shape : CommandForm
 gen_shape = record { word = codes "gen"; choices = []; operands = node_count ∷ [] }
 
 gen_named : shape_named the_table (codes "gen") ≡ Some gen_shape
@@ -36,7 +36,7 @@ at_least_one : (o : Option ℕ) → is_at_least 1 o ≡ true → 1 ≤ unwrap_or
 at_least_one None is = absurd (cc)
 at_least_one (Some n) is = grind (arith, nat_tests)
 
-abbrev self_shape : Shape
+abbrev self_shape : CommandForm
 self_shape = record { word = codes "self"; choices = []; operands = node_count ∷ [] }
 
 self_named : shape_named the_table (codes "self") ≡ Some self_shape
@@ -45,13 +45,13 @@ self_named = refl
 
 -- what an operand of a line is
 abbrev pub OperandsFit : Type 0
-OperandsFit = (words : List (List ℕ)) (asked : Asked) (shape : Shape) → AsksFor the_table words asked
-    → shape_named the_table asked.word ≡ Some shape → (k : ℕ) (place : Place)
+OperandsFit = (words : List (List ℕ)) (asked : Asked) (shape : CommandForm) → AsksFor the_table words asked
+    → shape_named the_table asked.word ≡ Some shape → (k : ℕ) (place : OperandRule)
     → slice_get shape.operands k ≡ Some place → fits place.kind (operand_in asked.given k) ≡ true
 
 module _ (fits_operand : OperandsFit) (words : List (List ℕ)) (asked : Asked)
     (asks : AsksFor the_table words asked) where
-  least_of : (shape : Shape) → shape_named the_table asked.word ≡ Some shape
+  least_of : (shape : CommandForm) → shape_named the_table asked.word ≡ Some shape
       → slice_get shape.operands 0 ≡ Some node_count → 1 ≤ nodes_in asked.given
   least_of shape named first =
       let text : List ℕ = operand_in asked.given 0 in

@@ -6,8 +6,9 @@ use Rattle.std.proofs.lemmas.Bool.{both_ways, and_parts}
 use Rattle.std.proofs.lemmas.Bool.Decides.{nat_tests}
 use Rattle.text_fields.specs.Reading.{number_of}
 use Rattle.halo_words.specs.declared.forms.Kind.TheVariants.{Number, Name}
-use Rattle.halo_words.specs.Table.{Choice, Shape, fits, is_plain, has_kind, is_at_least, choice_named, shape_named}
-use Rattle.halo_words.specs.Table.{the_table, plan_choices, optimise_choices, file_name, profile_name, edge, policy}
+use Rattle.halo_words.specs.Table.{Choice, CommandForm, fits, is_plain, has_kind, is_at_least, choice_named}
+use Rattle.halo_words.specs.Table.{shape_named, the_table, plan_choices, optimise_choices, file_name, profile_name}
+use Rattle.halo_words.specs.Table.{edge, policy}
 use Rattle.halo_words.specs.Grammar.{Asked, AsksFor, IsLine, IsFirstWrong, option_in}
 use Rattle.halo_cli.specs.Options.{options_in, policy_in, default_policy, policy_of, place_named, has_policy}
 use Rattle.halo_cli.specs.Valid.{Passes, Asks, IsValid, IsLastWrong, IsWrongAt}
@@ -72,10 +73,10 @@ pub has_by_default : (names : List (List ℕ)) (asked : Asked) → asked.word �
 has_by_default names asked is has =
     subst (λ name. has_policy names name ≡ true) (policy_by_default asked is) has
 
-abbrev plan_shape : Shape
+abbrev plan_shape : CommandForm
 plan_shape = record { word = codes "plan"; choices = plan_choices; operands = profile_name ∷ [] }
 
-abbrev optimise_shape : Shape
+abbrev optimise_shape : CommandForm
 optimise_shape = record { word = codes "optimise"; choices = optimise_choices; operands = file_name ∷ [] }
 
 pub plan_named : shape_named the_table (codes "plan") ≡ Some plan_shape
@@ -88,12 +89,12 @@ optimise_named = refl
 
 -- what an option of a line is
 abbrev pub OptionsFit : Type 0
-OptionsFit = (words : List (List ℕ)) (asked : Asked) (shape : Shape) → AsksFor the_table words asked
+OptionsFit = (words : List (List ℕ)) (asked : Asked) (shape : CommandForm) → AsksFor the_table words asked
     → shape_named the_table asked.word ≡ Some shape → (name : List ℕ) (choice : Choice)
     → choice_named shape.choices name ≡ Some choice → fits choice.kind (option_in asked.given name) ≡ true
 
 module _ (fits_option : OptionsFit) (words : List (List ℕ)) (asked : Asked) (asks : AsksFor the_table words asked)
-    (shape : Shape) (named : shape_named the_table asked.word ≡ Some shape) where
+    (shape : CommandForm) (named : shape_named the_table asked.word ≡ Some shape) where
   -- the policy's name isn't empty
   policy_is_plain : choice_named shape.choices (codes "policy") ≡ Some policy → is_plain (policy_in asked.given) ≡ true
   policy_is_plain has =

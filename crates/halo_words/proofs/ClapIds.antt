@@ -4,7 +4,7 @@ use Rattle.std.proofs.Common.{slice_get, Some, refl, sym, ap, subst}
 use Rattle.std.specs.Str.{bytes_eq}
 use Rattle.std.proofs.lemmas.Bool.{and_parts}
 use Rattle.std.proofs.lemmas.Slice.Eq.{bytes_eq-Decides}
-use Rattle.halo_words.specs.Table.{Choice, Place, Shape, choice_named}
+use Rattle.halo_words.specs.Table.{Choice, OperandRule, CommandForm, choice_named}
 use Rattle.halo_words.specs.Sound.{choice_name, place_name, are_apart, are_ids_apart}
 use Rattle.halo_words.specs.Grammar.{is_among}
 use Rattle.halo_words.proofs.LookUps.{among-append}
@@ -89,13 +89,13 @@ taken_apart id (first ∷ names) (suc k) none =
     let other : bytes_eq first id ≡ false = parts.0 in
     rw other (taken_apart id names k parts.1)
 
-pub name_at : (places : List Place) (k : ℕ) (place : Place) → slice_get places k ≡ Some place
+pub name_at : (places : List OperandRule) (k : ℕ) (place : OperandRule) → slice_get places k ≡ Some place
     → slice_get (map place_name places) k ≡ Some place.name
 name_at [] k place is = absurd (cc)
-name_at (first ∷ places) zero place is = let same : first ≡ place = cc in ap (λ (p : Place). Some p.name) same
+name_at (first ∷ places) zero place is = let same : first ≡ place = cc in ap (λ (p : OperandRule). Some p.name) same
 name_at (first ∷ places) (suc k) place is = name_at places k place is
 
-module _ (shape : Shape) (apart : are_ids_apart shape ≡ true) where
+module _ (shape : CommandForm) (apart : are_ids_apart shape ≡ true) where
   abbrev choice_names : List (List ℕ)
   choice_names = map choice_name shape.choices
 
@@ -111,7 +111,7 @@ module _ (shape : Shape) (apart : are_ids_apart shape ≡ true) where
       → is_among id (take k (map place_name shape.operands)) ≡ false
   option_is_not_taken id k among = taken_apart id place_names k (option_is_no_operand id among)
 
-  pub operand_is_no_option : (k : ℕ) (place : Place) → slice_get shape.operands k ≡ Some place
+  pub operand_is_no_option : (k : ℕ) (place : OperandRule) → slice_get shape.operands k ≡ Some place
       → is_among place.name (map choice_name shape.choices) ≡ false
   operand_is_no_option k place is =
       true_or_false (is_among place.name choice_names)
@@ -122,7 +122,7 @@ module _ (shape : Shape) (apart : are_ids_apart shape ≡ true) where
       absurd (cc)))
       (λ none. none)
 
-  pub operand_is_not_taken : (k : ℕ) (place : Place) → slice_get shape.operands k ≡ Some place
+  pub operand_is_not_taken : (k : ℕ) (place : OperandRule) → slice_get shape.operands k ≡ Some place
       → is_among place.name (take k (map place_name shape.operands)) ≡ false
   operand_is_not_taken k place is =
       fresh_at place_names k place.name (second_apart choice_names place_names apart)

@@ -10,7 +10,7 @@ use Rattle.std.proofs.lemmas.Bool.Decides.{nat_tests}
 use Rattle.std.proofs.lemmas.Slice.Eq.{bytes_eq-Decides}
 use Rattle.clap.specs.Walk.{Row, Held, idle, arg_by_id, has_row, settled}
 use Rattle.clap.specs.Takes.{walk_passes}
-use Rattle.halo_words.specs.Table.{Choice, Place, Shape, is_plain, has_kind, choice_named}
+use Rattle.halo_words.specs.Table.{Choice, OperandRule, CommandForm, is_plain, has_kind, choice_named}
 use Rattle.halo_words.specs.Sound.{choice_name, place_name, is_sound_choice, is_sound_place, is_sound_shape}
 use Rattle.halo_words.specs.Sound.{are_ids_apart, has_few_operands, is_name}
 use Rattle.halo_words.specs.Grammar.{Item, is_among, line_of, Complete}
@@ -49,10 +49,10 @@ one_row : (id name value : List ℕ) → has_row id (row name value ∷ []) ≡ 
 one_row id name value = true_or_false (bytes_eq name id) (λ test. rw test refl) (λ test. rw test refl)
 
 -- the id of the operand at a place
-abbrev pub id_at : List Place → ℕ → List ℕ
+abbrev pub id_at : List OperandRule → ℕ → List ℕ
 id_at places count = option_map_or place_name (slice_get places count) []
 
-module _ (shape : Shape) where
+module _ (shape : CommandForm) where
   abbrev pub item_rows : ℕ → List Item → List Row
   item_rows count [] = []
   item_rows count (Apart name value ∷ items) = row name value ∷ item_rows count items
@@ -92,7 +92,7 @@ module _ (shape : Shape) where
           ((bytes_eq-Decides name id).0 test) among)
           (λ test. (let wrong : false ≡ true = rw test at either in absurd (cc)))
 
-  operand_stands : (seen : List (List ℕ)) (count : ℕ) (rows : List Row) (place : Place) (word : List ℕ)
+  operand_stands : (seen : List (List ℕ)) (count : ℕ) (rows : List Row) (place : OperandRule) (word : List ℕ)
       → slice_get shape.operands count ≡ Some place
       → Stands seen count rows → Stands seen (count + 1) (rows ++ row place.name word ∷ [])
   operand_stands seen count rows place word is stands = record {
@@ -131,7 +131,7 @@ module _ (shape : Shape) where
               (choice_among shape.choices name choice is),
         ) refl
 
-    fresh_operand : (seen : List (List ℕ)) (count : ℕ) (rows : List Row) (place : Place)
+    fresh_operand : (seen : List (List ℕ)) (count : ℕ) (rows : List Row) (place : OperandRule)
         → slice_get shape.operands count ≡ Some place
         → Stands seen count rows → has_row place.name rows ≡ false
     fresh_operand seen count rows place is stands =

@@ -15,7 +15,7 @@ use Rattle.clap.specs.Takes.{is_given, is_valid, default_passes, settle_passes, 
 use Rattle.clap.specs.Takes.{takes}
 use Rattle.clap.proofs.TakesLemmas.{leaf_takes}
 use Rattle.clap.proofs.WalkLemmas.{first_value-rows}
-use Rattle.halo_words.specs.Table.{Choice, Place, Shape}
+use Rattle.halo_words.specs.Table.{Choice, OperandRule, CommandForm}
 use Rattle.halo_words.specs.Sound.{choice_name, place_name, is_sound_shape, are_ids_apart, has_few_operands}
 use Rattle.halo_words.specs.Grammar.{Item, Given, is_among, line_of, Complete, value_given, operands_of, option_by}
 use Rattle.halo_words.specs.Grammar.{given_by}
@@ -34,13 +34,14 @@ cond_same true x = refl
 cond_same false x = refl
 
 -- no argument has a default of clap's
-operands_keep : (i : ℕ) (places : List Place) (rows : List Row) → fold with_default rows (operands_from i places) ≡ rows
+operands_keep : (i : ℕ) (places : List OperandRule) (rows : List Row)
+    → fold with_default rows (operands_from i places) ≡ rows
 operands_keep i [] rows = refl
 operands_keep i (place ∷ places) rows =
     ap (λ r. fold with_default r (operands_from (i + 1) places)) (cond_same (has_row place.name rows) rows)
     ∙ operands_keep (i + 1) places rows
 
-rules_keep : (choices : List Choice) (i : ℕ) (places : List Place) (rows : List Row)
+rules_keep : (choices : List Choice) (i : ℕ) (places : List OperandRule) (rows : List Row)
     → fold with_default rows (map built_option choices ++ operands_from i places) ≡ rows
 rules_keep [] i places rows = operands_keep i places rows
 rules_keep (choice ∷ choices) i places rows =
@@ -51,16 +52,16 @@ rules_keep (choice ∷ choices) i places rows =
 abbrev is_there : List Row → Rule → Bool
 is_there rows a = not a.required || is_given a.id rows
 
-operands_there : (i : ℕ) (places : List Place) (rows : List Row)
-    → ((j : ℕ) (place : Place) → slice_get places j ≡ Some place → is_given place.name rows ≡ true)
+operands_there : (i : ℕ) (places : List OperandRule) (rows : List Row)
+    → ((j : ℕ) (place : OperandRule) → slice_get places j ≡ Some place → is_given place.name rows ≡ true)
     → list_all (is_there rows) (operands_from i places) ≡ true
 operands_there i [] rows given = refl
 operands_there i (place ∷ places) rows given =
     let here : is_given place.name rows ≡ true = given 0 place refl in
     rw here (operands_there (i + 1) places rows (λ j p is. given (suc j) p is))
 
-all_there : (choices : List Choice) (i : ℕ) (places : List Place) (rows : List Row)
-    → ((j : ℕ) (place : Place) → slice_get places j ≡ Some place → is_given place.name rows ≡ true)
+all_there : (choices : List Choice) (i : ℕ) (places : List OperandRule) (rows : List Row)
+    → ((j : ℕ) (place : OperandRule) → slice_get places j ≡ Some place → is_given place.name rows ≡ true)
     → list_all (is_there rows) (map built_option choices ++ operands_from i places) ≡ true
 all_there [] i places rows given = operands_there i places rows given
 all_there (choice ∷ choices) i places rows given = all_there choices i places rows given
@@ -72,8 +73,8 @@ map_same f g [] same = refl
 map_same f g (x ∷ xs) same =
     ap (λ y. y ∷ map f xs) (same 0 x refl) ∙ ap (λ ys. g x ∷ ys) (map_same f g xs (λ j y is. same (suc j) y is))
 
-map_to : (f : Place → List ℕ) (places : List Place) (words : List (List ℕ)) → length places ≡ length words
-    → ((j : ℕ) (place : Place) → slice_get places j ≡ Some place → slice_get words j ≡ Some (f place))
+map_to : (f : OperandRule → List ℕ) (places : List OperandRule) (words : List (List ℕ)) → length places ≡ length words
+    → ((j : ℕ) (place : OperandRule) → slice_get places j ≡ Some place → slice_get words j ≡ Some (f place))
     → map f places ≡ words
 map_to f [] [] lengths same = refl
 map_to f [] (w ∷ words) lengths same = absurd (omega arith)
@@ -122,7 +123,7 @@ differ_back names a b in_them not_in = true_or_false (bytes_eq b a)
     absurd (cc)))
     (λ test. test)
 
-module _ (shape : Shape) (sound : is_sound_shape shape ≡ true) (apart : are_ids_apart shape ≡ true)
+module _ (shape : CommandForm) (sound : is_sound_shape shape ≡ true) (apart : are_ids_apart shape ≡ true)
     (few : has_few_operands shape ≡ true) where
   -- ---- the values in the rows
 
@@ -157,7 +158,7 @@ module _ (shape : Shape) (sound : is_sound_shape shape ≡ true) (apart : are_id
       (operand_is_no_option shape apart count place is)) in
       rw other (option_value name among items seen (count + 1) rest)
 
-  operand_row : (k : ℕ) (place : Place) → slice_get shape.operands k ≡ Some place
+  operand_row : (k : ℕ) (place : OperandRule) → slice_get shape.operands k ≡ Some place
       → (items : List Item) (seen : List (List ℕ)) (count j : ℕ) (word : List ℕ) → Complete shape seen count items
       → k ≡ count + j → slice_get (operands_of items) j ≡ Some word
       → find (λ (r : Row). bytes_eq r.id place.name) (item_rows shape count items) ≡ Some (row place.name word)
@@ -178,7 +179,7 @@ module _ (shape : Shape) (sound : is_sound_shape shape ≡ true) (apart : are_id
       let place_is : k ≡ count = omega arith in
       let found : Some place ≡ Some here = sym at ∙ (ap (slice_get shape.operands) place_is ∙ is) in
       let same : here ≡ place = cc in
-      let id : id_at shape.operands count ≡ place.name = rw is (ap (λ (p : Place). p.name) same) in
+      let id : id_at shape.operands count ≡ place.name = rw is (ap (λ (p : OperandRule). p.name) same) in
       let word_is : first ≡ word = cc in
       let itself : bytes_eq place.name place.name ≡ true = (bytes_eq-Decides place.name place.name).1 refl in
       rw (id, itself) (ap (λ w. Some (row place.name w)) word_is)
@@ -194,7 +195,7 @@ module _ (shape : Shape) (sound : is_sound_shape shape ≡ true) (apart : are_id
     rows : List Row
     rows = item_rows shape 0 items
 
-    operand_value : (k : ℕ) (place : Place) → slice_get shape.operands k ≡ Some place
+    operand_value : (k : ℕ) (place : OperandRule) → slice_get shape.operands k ≡ Some place
         → (word : List ℕ) × (slice_get (operands_of items) k ≡ Some word)
         × (find (λ (r : Row). bytes_eq r.id place.name) (item_rows shape 0 items) ≡ Some (row place.name word))
     operand_value k place at =
@@ -203,7 +204,7 @@ module _ (shape : Shape) (sound : is_sound_shape shape ≡ true) (apart : are_id
         let word = get_below (operands_of items) k (omega arith) in
         (word.0, word.1, operand_row k place at items [] 0 k word.0 complete (omega arith) word.1)
 
-    given_operand : (k : ℕ) (place : Place) → slice_get shape.operands k ≡ Some place
+    given_operand : (k : ℕ) (place : OperandRule) → slice_get shape.operands k ≡ Some place
         → is_given place.name (item_rows shape 0 items) ≡ true
     given_operand k place at = rw (operand_value k place at).2 refl
 
@@ -274,7 +275,7 @@ module _ (shape : Shape) (sound : is_sound_shape shape ≡ true) (apart : are_id
           ap (λ o. (let pair : List ℕ × List ℕ = (choice.name, unwrap_or o choice.default) in pair))
           (first_is choice.name ∙ option_value choice.name among items [] 0 complete)
 
-      operand_is : (k : ℕ) (place : Place) → slice_get shape.operands k ≡ Some place
+      operand_is : (k : ℕ) (place : OperandRule) → slice_get shape.operands k ≡ Some place
           → slice_get (operands_of items) k ≡ Some (operand_found found place)
       operand_is k place at =
           let value = operand_value k place at in

@@ -11,7 +11,7 @@ use Rattle.clap.specs.Values.{reading_of}
 use Rattle.clap.specs.Walk.{Row, Held, Waiting, Walk, idle, option, arg_by_id, arg_by_long, arg_by_index, has_row}
 use Rattle.clap.specs.Walk.{at_row, more_values, without, with_values, is_pending, settled, walked}
 use Rattle.clap.specs.Takes.{settle_passes, turn_passes, walk_passes}
-use Rattle.halo_words.specs.Table.{Choice, Place, Shape, is_plain, choice_named}
+use Rattle.halo_words.specs.Table.{Choice, OperandRule, CommandForm, is_plain, choice_named}
 use Rattle.halo_words.specs.Sound.{is_name}
 use Rattle.halo_words.proofs.ClapWords.{no_dashes, no_long, no_short, long_apart, long_joined, apart_is_no_end}
 use Rattle.halo_words.proofs.ClapWords.{joined_is_no_end}
@@ -53,7 +53,7 @@ and_false : (b : Bool) → (b && false) ≡ false
 and_false true = refl
 and_false false = refl
 
-module _ (shape : Shape) where
+module _ (shape : CommandForm) where
   -- the walk behind so many operands
   abbrev pub walk_at : Held → ℕ → Waiting → Walk
   walk_at h count waiting =
@@ -95,7 +95,7 @@ module _ (shape : Shape) where
 
   -- ---- the turns
 
-  pub operand_turn : (h : Held) (count : ℕ) (word : List ℕ) (place : Place) → count < 64
+  pub operand_turn : (h : Held) (count : ℕ) (word : List ℕ) (place : OperandRule) → count < 64
       → slice_get shape.operands count ≡ Some place → is_plain word ≡ true
       → settle_passes (built_rules shape) false h ≡ true → Turn (walk_at h count idle) word
       (walk_at (pends h place.name word) (count + 1) idle)
@@ -185,7 +185,7 @@ module _ (shape : Shape) where
     passes = refl;
   }
 
-  pub pending_operand : (h : Held) (rows : List Row) (count : ℕ) (word : List ℕ) (place : Place)
+  pub pending_operand : (h : Held) (rows : List Row) (count : ℕ) (word : List ℕ) (place : OperandRule)
       → arg_by_id (built_rules shape) place.name ≡ Some (built_operand (count + 1) place)
       → Holds h rows → has_row place.name rows ≡ false → Holds (pends h place.name word)
       (rows ++ row place.name word ∷ [])

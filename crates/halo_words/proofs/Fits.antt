@@ -6,7 +6,7 @@ use Rattle.std.specs.List.{list_all}
 use Rattle.std.specs.Str.{bytes_eq}
 use Rattle.std.proofs.lemmas.Bool.{and_parts}
 use Rattle.std.proofs.lemmas.Slice.Eq.{bytes_eq-Decides}
-use Rattle.halo_words.specs.Table.{Choice, Place, Shape, fits, choice_named, shape_named, the_table}
+use Rattle.halo_words.specs.Table.{Choice, OperandRule, CommandForm, fits, choice_named, shape_named, the_table}
 use Rattle.halo_words.specs.Sound.{is_name, is_sound_choice, is_sound_place, is_sound_shape}
 use Rattle.halo_words.specs.Grammar.{Item, Asked, Gives, Complete, value_given, operands_of, option_by, given_by}
 use Rattle.halo_words.specs.Grammar.{value_in, option_in, operand_in, AsksFor}
@@ -34,7 +34,7 @@ value_found items [] name = refl
 value_found items (first ∷ choices) name =
     value_by items first choices name (bytes_eq first.name name) refl (value_found items choices name)
 
-module _ (shape : Shape) (sound : is_sound_shape shape ≡ true) where
+module _ (shape : CommandForm) (sound : is_sound_shape shape ≡ true) where
   choices_sound : list_all is_sound_choice shape.choices ≡ true
   choices_sound = (and_parts (list_all is_sound_choice shape.choices) (list_all is_sound_place shape.operands) sound).0
 
@@ -83,7 +83,7 @@ module _ (shape : Shape) (sound : is_sound_shape shape ≡ true) where
         by_value None none default = default
         by_value (Some value) some default = given_fits items [] 0 complete value some
 
-  operand_at : (k : ℕ) (place : Place) → slice_get shape.operands k ≡ Some place
+  operand_at : (k : ℕ) (place : OperandRule) → slice_get shape.operands k ≡ Some place
       → (items : List Item) (seen : List (List ℕ)) (count j : ℕ)
       → Complete shape seen count items → k ≡ count + j → fits place.kind
       (unwrap_or (slice_get (operands_of items) j) []) ≡ true
@@ -97,17 +97,17 @@ module _ (shape : Shape) (sound : is_sound_shape shape ≡ true) where
       let place_is : k ≡ count = omega arith in
       let found : Some place ≡ Some here = sym at ∙ (ap (slice_get shape.operands) place_is ∙ is) in
       let same : here ≡ place = cc in
-      subst (λ (p : Place). fits p.kind word ≡ true) same fit
+      subst (λ (p : OperandRule). fits p.kind word ≡ true) same fit
   operand_at k place at (Operand word ∷ items) seen count (suc j) (operand, rest) where_is =
       operand_at k place at items seen (count + 1) j rest (omega arith)
 
-  pub operand_fits : (k : ℕ) (place : Place) → slice_get shape.operands k ≡ Some place → (items : List Item)
+  pub operand_fits : (k : ℕ) (place : OperandRule) → slice_get shape.operands k ≡ Some place → (items : List Item)
       → Complete shape [] 0 items
       → fits place.kind (operand_in (given_by shape items) k) ≡ true
   operand_fits k place at items complete = operand_at k place at items [] 0 k complete (omega arith)
 
 -- what a line gives, by the command of its word
-module _ (words : List (List ℕ)) (asked : Asked) (shape : Shape) (asks : AsksFor the_table words asked)
+module _ (words : List (List ℕ)) (asked : Asked) (shape : CommandForm) (asks : AsksFor the_table words asked)
     (named : shape_named the_table asked.word ≡ Some shape) where
   shape_is : asks.shape ≡ shape
   shape_is = let both : Some asks.shape ≡ Some shape = sym asks.command ∙ named in cc
@@ -127,7 +127,7 @@ module _ (words : List (List ℕ)) (asked : Asked) (shape : Shape) (asks : AsksF
       subst (λ g. fits choice.kind (option_in g name) ≡ true) (sym given_is)
       (option_fits shape sound name choice is asks.items complete)
 
-  pub operand_of_line_fits : (k : ℕ) (place : Place) → slice_get shape.operands k ≡ Some place
+  pub operand_of_line_fits : (k : ℕ) (place : OperandRule) → slice_get shape.operands k ≡ Some place
       → fits place.kind (operand_in asked.given k) ≡ true
   operand_of_line_fits k place at =
       subst (λ g. fits place.kind (operand_in g k) ≡ true) (sym given_is)

@@ -9,7 +9,7 @@ use Rattle.std.proofs.lemmas.Bool.Decides.{nat_tests}
 use Rattle.std.proofs.lemmas.Option.{cond_some}
 use Rattle.std.proofs.lemmas.Slice.Eq.{bytes_eq-Decides}
 use Rattle.text_fields.specs.Reading.{after_front, cut_at, ◌>>=◌}
-use Rattle.halo_words.specs.Table.{Choice, Place, Shape, fits, is_plain, has_kind, choice_named}
+use Rattle.halo_words.specs.Table.{Choice, OperandRule, CommandForm, fits, is_plain, has_kind, choice_named}
 use Rattle.halo_words.specs.Sound.{is_name, is_sound_choice, is_sound_place, is_sound_shape, example}
 use Rattle.halo_words.specs.Grammar.{Item, is_among, line_of, Gives, IsOperand, Complete}
 use Rattle.halo_words.specs.Grammar.Item.{Apart, Joined, Operand}
@@ -67,7 +67,7 @@ get_within [] i x is = absurd (cc)
 get_within (y ∷ ys) zero x is = omega arith
 get_within (y ∷ ys) (suc i) x is = let later = get_within ys i x is in omega arith
 
-module _ (shape : Shape) where
+module _ (shape : CommandForm) where
   -- ---- what a word comes to
 
   -- behind an option's name
@@ -102,7 +102,7 @@ module _ (shape : Shape) where
         → next ≡ waits (seen ++ name ∷ []) count choice → Took seen count word next
 
   module _ (seen : List (List ℕ)) (count : ℕ) (word : List ℕ) (next : Reading) where
-    by_place : (o : Option Place) → slice_get shape.operands count ≡ o → named word ≡ []
+    by_place : (o : Option OperandRule) → slice_get shape.operands count ≡ o → named word ≡ []
         → operand_met o (idle seen count) word ≡ Some next → Took seen count word next
     by_place None is plain met = absurd (cc)
     by_place (Some place) is plain met =

@@ -11,7 +11,7 @@ use Rattle.std.proofs.Math.Seq.{drop-cons}
 use Rattle.halo_words.specs.declared.forms.Setting.{Setting}
 use Rattle.halo_words.specs.declared.forms.Operand.{Operand}
 use Rattle.halo_words.specs.declared.forms.Form.{Form}
-use Rattle.halo_words.specs.Table.{Choice, Place, choice_of, place_of, shape_of, choice_named, shape_named}
+use Rattle.halo_words.specs.Table.{Choice, OperandRule, choice_of, place_of, shape_of, choice_named, shape_named}
 use Rattle.halo_words.specs.Sound.{is_short, is_short_option, are_short_choices, are_short_places}
 use Rattle.halo_words.specs.Grammar.{texts, is_among}
 use Rattle.halo_words.specs.Reading.{named, names_in}
@@ -28,7 +28,8 @@ pub place_short : (operands : List Operand) (count : ℕ) (found : Option Operan
     → are_short_places (map place_of operands) ≡ true → IfSome found (λ operand. is_short operand.kind ≡ true)
 place_short operands count None is short = tt
 place_short operands count (Some operand) is short =
-    all_at (λ (place : Place). is_short place.kind) (map place_of operands) count (place_of operand) short (sym is)
+    all_at (λ (place : OperandRule). is_short place.kind) (map place_of operands) count (place_of operand) short
+    (sym is)
 
 short_by : (choice : Choice) (choices : List Choice) (name : List ℕ) (test : Bool) → bytes_eq choice.name name ≡ test
     → are_short_choices (choice ∷ choices) ≡ true → is_short_option (choice_named choices name) ≡ true

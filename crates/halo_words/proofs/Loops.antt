@@ -5,7 +5,7 @@ use Rattle.std.proofs.lemmas.List.{take_all, take-map, length-map}
 use Rattle.std.specs.Prelude.{String, string_bytes}
 use Rattle.std.specs.declared.alloc.Global.{Global}
 use Rattle.text_fields.specs.Reading.{◌>>=◌}
-use Rattle.halo_words.specs.Table.{Shape}
+use Rattle.halo_words.specs.Table.{CommandForm}
 use Rattle.halo_words.specs.Grammar.{texts}
 use Rattle.halo_words.specs.Reading.{Reading, named, names_in, step, read_on}
 
@@ -29,20 +29,20 @@ names-append (x ∷ xs) ys =
     ap (λ n. named x ++ n) (names-append xs ys) ∙ sym (append_assoc (named x) (names_in xs) (names_in ys))
 
 -- words are read one part after the other
-parts_by : (shape : Shape) (o : Option Reading) (xs ys : List (List ℕ))
+parts_by : (shape : CommandForm) (o : Option Reading) (xs ys : List (List ℕ))
     → ((next : Reading) → read_on shape next (xs ++ ys) ≡ (read_on shape next xs >>= λ r. read_on shape r ys))
     → (o >>= λ next. read_on shape next (xs ++ ys)) ≡ ((o >>= λ next. read_on shape next xs) >>= λ r. read_on shape r
     ys)
 parts_by shape None xs ys later = refl
 parts_by shape (Some next) xs ys later = later next
 
-pub read-append : (shape : Shape) (r : Reading) (xs ys : List (List ℕ))
+pub read-append : (shape : CommandForm) (r : Reading) (xs ys : List (List ℕ))
     → read_on shape r (xs ++ ys) ≡ (read_on shape r xs >>= λ next. read_on shape next ys)
 read-append shape r [] ys = refl
 read-append shape r (x ∷ xs) ys = parts_by shape (step shape r x) xs ys (λ next. read-append shape next xs ys)
 
 module _ (words : List (List ℕ)) (at : ℕ) (word : List ℕ) (here : slice_get words at ≡ Some word) where
-  pub one_more : (shape : Shape) (start r next : Reading) → read_on shape start (take at words) ≡ Some r
+  pub one_more : (shape : CommandForm) (start r next : Reading) → read_on shape start (take at words) ≡ Some r
       → step shape r word ≡ Some next
       → read_on shape start (take (at + 1) words) ≡ Some next
   one_more shape start r next before met = rw (add-one, take-get words at word here, read-append, before, met) refl
@@ -51,7 +51,7 @@ module _ (words : List (List ℕ)) (at : ℕ) (word : List ℕ) (here : slice_ge
   names_more = rw (add-one, take-get words at word here, names-append, append-nil) refl
 
 -- at the end all words are read
-pub all_read : (shape : Shape) (start r : Reading) (words : List (String Global)) (at : ℕ) → length words ≤ at
+pub all_read : (shape : CommandForm) (start r : Reading) (words : List (String Global)) (at : ℕ) → length words ≤ at
     → read_on shape start (take at (texts words)) ≡ Some r → read_on shape start (texts words) ≡ Some r
 all_read shape start r words at end read =
     let whole : take at (texts words) ≡ texts words = take_all at (texts words) (simp length-map end) in

@@ -9,7 +9,7 @@ use Rattle.clap.specs.declared.parser.matches.Found.{Found}
 use Rattle.clap.specs.Walk.{Rule, rows_of}
 use Rattle.clap.specs.Simple.{App, is_simple, matches_of, with_rule}
 use Rattle.clap.specs.Takes.{takes}
-use Rattle.halo_words.specs.Table.{Choice, Shape, choice_named, the_table}
+use Rattle.halo_words.specs.Table.{Choice, CommandForm, choice_named, the_table}
 use Rattle.halo_words.specs.Sound.{is_sound_shape, are_ids_apart, has_few_operands}
 use Rattle.halo_words.specs.Grammar.{IsLineFor, IsLine, AsksFor, given_by, value_in, option_in}
 use Rattle.halo_words.specs.Apps.{app_for, with_rules, option_found, given_found}
@@ -17,7 +17,7 @@ use Rattle.halo_words.proofs.TableLines.{table_sound, shape_sound, shape_parsed}
 use Rattle.halo_words.proofs.ClapRules.{app_simple}
 use Rattle.halo_words.proofs.ClapLines.{line_taken, values_found}
 
-module _ (words : List (List ℕ)) (shape : Shape) (line : IsLineFor the_table words shape) where
+module _ (words : List (List ℕ)) (shape : CommandForm) (line : IsLineFor the_table words shape) where
   sound : is_sound_shape shape ≡ true
   sound = shape_sound the_table table_sound shape.word shape line.0
 
@@ -60,7 +60,7 @@ rules_none app = ap (λ rs. (let more : App = record app { top = record app.top 
     (sym (append-nil app.top.rules))
 
 -- a line of a command is a line
-pub is_line : (words : List (List ℕ)) (shape : Shape) → IsLineFor the_table words shape → IsLine the_table words
+pub is_line : (words : List (List ℕ)) (shape : CommandForm) → IsLineFor the_table words shape → IsLine the_table words
 is_line words shape line = (
   record { word = shape.word; given = given_by shape line.1.0 },
   record { shape = shape; items = line.1.0; command = line.0; line = line.1.1; given = refl },
@@ -85,7 +85,7 @@ value_found found [] name = refl
 value_found found (first ∷ choices) name =
     value_by found first choices name (bytes_eq first.name name) refl (value_found found choices name)
 
-module _ (found : Found) (shape : Shape) (name : List ℕ) where
+module _ (found : Found) (shape : CommandForm) (name : List ℕ) where
   pub option_is : (choice : Choice) → choice_named shape.choices name ≡ Some choice
       → option_in (given_found shape found) name ≡ unwrap_or (first_value found choice.name) choice.default
   unfolding value_or

@@ -5,7 +5,7 @@ use Rattle.std.specs.Prelude.{unwrap_or, if◌then◌else◌}
 use Rattle.std.specs.Str.{bytes_eq}
 use Rattle.std.proofs.lemmas.Bool.{and_parts}
 use Rattle.text_fields.specs.Reading.{after_front, cut_at}
-use Rattle.halo_words.specs.Table.{Choice, Place, Shape, fits, is_plain, has_kind, the_table}
+use Rattle.halo_words.specs.Table.{Choice, OperandRule, CommandForm, fits, is_plain, has_kind, the_table}
 use Rattle.halo_words.specs.Sound.{is_name, is_sound_shape}
 use Rattle.halo_words.specs.Grammar.{Item, Asked, line_of, Complete, value_place, AsksFor}
 use Rattle.halo_words.specs.Grammar.Item.{Apart, Joined, Operand}
@@ -20,7 +20,7 @@ plain_gives : (name word : List ℕ) (at : ℕ) → is_plain word ≡ true → p
 unfolding place_by
 plain_gives name word at plain = rw (plain_has_none word plain) refl
 
-module _ (name : List ℕ) (shape : Shape) (sound : is_sound_shape shape ≡ true) where
+module _ (name : List ℕ) (shape : CommandForm) (sound : is_sound_shape shape ≡ true) where
   apart_here : (given value : List ℕ) (at : ℕ) (rest : List (List ℕ)) (later : Option ℕ) (test : Bool)
       → bytes_eq given name ≡ test → is_name given ≡ true → is_plain value ≡ true
       → first_place name (at + 2) rest ≡ later

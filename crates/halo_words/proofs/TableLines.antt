@@ -8,7 +8,7 @@ use Rattle.std.proofs.lemmas.Slice.Eq.{bytes_eq-Decides}
 use Rattle.std.proofs.lemmas.Bool.{and_parts}
 use Rattle.std.proofs.lemmas.List.{take_all}
 use Rattle.text_fields.specs.Reading.{after_front, cut_at, number_of}
-use Rattle.halo_words.specs.Table.{Shape, is_plain, has_kind, shape_named, the_table, file_name}
+use Rattle.halo_words.specs.Table.{CommandForm, is_plain, has_kind, shape_named, the_table, file_name}
 use Rattle.halo_words.specs.Sound.{is_short_shape, is_sound_shape, is_parsed_shape, is_sound_table}
 use Rattle.halo_words.specs.Grammar.{Item, Asked, line_of, Complete, given_by, IsLineOf, IsLineFor, AsksFor, IsLine}
 use Rattle.halo_words.specs.Grammar.{BeginsLine, IsFirstWrong}
@@ -57,7 +57,7 @@ none_from : items_from [] ≡ []
 unfolding items_from
 none_from = refl
 
-module _ (shape : Shape) (sound : is_sound_shape shape ≡ true) where
+module _ (shape : CommandForm) (sound : is_sound_shape shape ≡ true) where
   again : (items : List Item) (seen : List (List ℕ)) (count : ℕ) → Complete shape seen count items
       → items_from (line_of items) ≡ items
   again [] seen count complete = none_from
@@ -80,11 +80,11 @@ module _ (shape : Shape) (sound : is_sound_shape shape ≡ true) where
 
 -- ---- a table
 
-abbrev IsSoundFor : Shape → Type 0
+abbrev IsSoundFor : CommandForm → Type 0
 IsSoundFor shape = (is_short_shape shape && (is_sound_shape shape && is_parsed_shape shape)) ≡ true
 
-sound_by : (first shape : Shape) (table : List Shape) (word : List ℕ) (test : Bool) → bytes_eq first.word word ≡ test
-    → is_sound_table (first ∷ table) ≡ true
+sound_by : (first shape : CommandForm) (table : List CommandForm) (word : List ℕ) (test : Bool)
+    → bytes_eq first.word word ≡ test → is_sound_table (first ∷ table) ≡ true
     → shape_named (first ∷ table) word ≡ Some shape → (shape_named table word ≡ Some shape → IsSoundFor shape)
     → IsSoundFor shape
 sound_by first shape table word true test sound is later =
@@ -94,7 +94,7 @@ sound_by first shape table word true test sound is later =
     (is_sound_table table) sound).0
 sound_by first shape table word false test sound is later = later (rw test at is)
 
-shape_is_sound : (table : List Shape) (word : List ℕ) (shape : Shape) → is_sound_table table ≡ true
+shape_is_sound : (table : List CommandForm) (word : List ℕ) (shape : CommandForm) → is_sound_table table ≡ true
     → shape_named table word ≡ Some shape → IsSoundFor shape
 shape_is_sound [] word shape sound is = absurd (cc)
 shape_is_sound (first ∷ table) word shape sound is =
@@ -108,29 +108,31 @@ asked_same a b word given =
     ∙ ap (λ g. (let asked : Asked = record { word = b.word; given = g } in asked)) given
 
 -- the command that is found has the word
-word_by : (first shape : Shape) (table : List Shape) (word : List ℕ) (test : Bool) → bytes_eq first.word word ≡ test
-    → shape_named (first ∷ table) word ≡ Some shape → (shape_named table word ≡ Some shape → shape.word ≡ word)
-    → shape.word ≡ word
+word_by : (first shape : CommandForm) (table : List CommandForm) (word : List ℕ) (test : Bool)
+    → bytes_eq first.word word ≡ test → shape_named (first ∷ table) word ≡ Some shape
+    → (shape_named table word ≡ Some shape → shape.word ≡ word) → shape.word ≡ word
 word_by first shape table word true test is later =
     let found : Some first ≡ Some shape = rw test at is in
     let same : first ≡ shape = cc in
-    ap (λ (s : Shape). s.word) (sym same) ∙ (bytes_eq-Decides first.word word).0 test
+    ap (λ (s : CommandForm). s.word) (sym same) ∙ (bytes_eq-Decides first.word word).0 test
 word_by first shape table word false test is later = later (rw test at is)
 
-pub shape_word : (table : List Shape) (word : List ℕ) (shape : Shape) → shape_named table word ≡ Some shape
+pub shape_word : (table : List CommandForm) (word : List ℕ) (shape : CommandForm) → shape_named table word ≡ Some shape
     → shape.word ≡ word
 shape_word [] word shape is = absurd (cc)
 shape_word (first ∷ table) word shape is =
     word_by first shape table word (bytes_eq first.word word) refl is (shape_word table word shape)
 
-module _ (table : List Shape) (sound : is_sound_table table ≡ true) where
-  pub shape_short : (word : List ℕ) (shape : Shape) → shape_named table word ≡ Some shape → is_short_shape shape ≡ true
+module _ (table : List CommandForm) (sound : is_sound_table table ≡ true) where
+  pub shape_short : (word : List ℕ) (shape : CommandForm) → shape_named table word ≡ Some shape
+      → is_short_shape shape ≡ true
   shape_short word shape is = (and_parts _ _ (shape_is_sound table word shape sound is)).0
 
-  pub shape_sound : (word : List ℕ) (shape : Shape) → shape_named table word ≡ Some shape → is_sound_shape shape ≡ true
+  pub shape_sound : (word : List ℕ) (shape : CommandForm) → shape_named table word ≡ Some shape
+      → is_sound_shape shape ≡ true
   shape_sound word shape is = (and_parts _ _ (and_parts _ _ (shape_is_sound table word shape sound is)).1).0
 
-  pub shape_parsed : (word : List ℕ) (shape : Shape) → shape_named table word ≡ Some shape
+  pub shape_parsed : (word : List ℕ) (shape : CommandForm) → shape_named table word ≡ Some shape
       → is_parsed_shape shape ≡ true
   shape_parsed word shape is = (and_parts _ _ (and_parts _ _ (shape_is_sound table word shape sound is)).1).1
 
@@ -144,7 +146,7 @@ module _ (table : List Shape) (sound : is_sound_table table ≡ true) where
   rest_of word words asked items is = cc
 
   -- a line's words behind its command end it
-  pub line_ends : (word : List ℕ) (words : List (List ℕ)) (shape : Shape) → shape_named table word ≡ Some shape
+  pub line_ends : (word : List ℕ) (words : List (List ℕ)) (shape : CommandForm) → shape_named table word ≡ Some shape
       → IsLine table (word ∷ words) → Ends shape (idle [] 0) words
   line_ends word words shape is (asked, asks) =
       let command : word ≡ asked.word = command_of word words asked asks.items asks.line.words_are in
@@ -156,14 +158,14 @@ module _ (table : List Shape) (sound : is_sound_table table ≡ true) where
       (shape_sound word shape is) asks.items [] 0 complete)
 
   -- what ends a line asks for a command
-  pub asks_from : (word : List ℕ) (words : List (List ℕ)) (shape : Shape) → shape_named table word ≡ Some shape
+  pub asks_from : (word : List ℕ) (words : List (List ℕ)) (shape : CommandForm) → shape_named table word ≡ Some shape
       → Ends shape (idle [] 0) words
       → (items : List Item) × IsLineOf (word ∷ words) word shape items
   asks_from word words shape is ends =
       let found = made shape words [] 0 ends in
       (found.0, record { words_are = ap (λ ws. word ∷ ws) found.1; complete = found.2 })
 
-  pub line_from : (word : List ℕ) (words : List (List ℕ)) (shape : Shape) → shape_named table word ≡ Some shape
+  pub line_from : (word : List ℕ) (words : List (List ℕ)) (shape : CommandForm) → shape_named table word ≡ Some shape
       → Ends shape (idle [] 0) words → IsLine table (word ∷ words)
   line_from word words shape is ends =
       let found = asks_from word words shape is ends in (
@@ -184,7 +186,7 @@ module _ (table : List Shape) (sound : is_sound_table table ≡ true) where
 
   -- ---- the first wrong word
 
-  module _ (word : List ℕ) (shape : Shape) (is : shape_named table word ≡ Some shape) where
+  module _ (word : List ℕ) (shape : CommandForm) (is : shape_named table word ≡ Some shape) where
     -- words that are read on begin a line
     pub begins : (words : List (List ℕ)) (r : Reading) → read_on shape (idle [] 0) words ≡ Some r
         → BeginsLine table (word ∷ words)
@@ -275,7 +277,7 @@ pub table_sound : is_sound_table the_table ≡ true
 unfolding the_table number_of digits
 table_sound = refl
 
-shows : Shape
+shows : CommandForm
 shows = record { word = codes "show"; choices = []; operands = file_name ∷ [] }
 
 shown : Asked
@@ -308,7 +310,7 @@ module _ (words : List (List ℕ)) where
     line_unknown none = subst (λ ws. IsFirstWrong the_table ws 0) (sym is)
         (unknown_command the_table table_sound command rest none table_begins)
 
-    module _ (shape : Shape) (named : shape_named the_table command ≡ Some shape) where
+    module _ (shape : CommandForm) (named : shape_named the_table command ≡ Some shape) where
       pub line_found : Ends shape (idle [] 0) rest → IsLineFor the_table words shape
       line_found ends =
           let word : shape.word ≡ command = shape_word the_table command shape named in

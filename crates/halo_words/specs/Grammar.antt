@@ -2,7 +2,7 @@
 use Rattle.std.specs.Prelude.{◌≡◌, ℕ, ◌+◌, ◌⊎◌, Bool, true, false, List, [], ◌∷◌, ◌++◌, length, take, map, slice_get}
 use Rattle.std.specs.Prelude.{Option, Some, None, unwrap_or, codes, bytes_eq, if◌then◌else◌, string_bytes, String}
 use Rattle.std.specs.declared.alloc.Global.{Global}
-use Rattle.halo_words.specs.Table.{Choice, Place, Shape, fits, choice_named, shape_named}
+use Rattle.halo_words.specs.Table.{Choice, OperandRule, CommandForm, fits, choice_named, shape_named}
 
 -- the bytes of each word
 abbrev pub texts : List (String Global) → List (List ℕ)
@@ -29,18 +29,18 @@ line_of [] = []
 line_of (item ∷ items) = words_of item ++ line_of items
 
 -- the command has an option of this name, it isn't among those that were given, and the value fits
-abbrev pub Gives : Shape → List (List ℕ) → List ℕ → List ℕ → Type 0
+abbrev pub Gives : CommandForm → List (List ℕ) → List ℕ → List ℕ → Type 0
 Gives shape seen name value = (is_among name seen ≡ false)
     × ((choice : Choice) × (choice_named shape.choices name ≡ Some choice) × (fits choice.kind value ≡ true))
 
 -- the command has an operand behind `count` others, which the word fits
-abbrev pub IsOperand : Shape → ℕ → List ℕ → Type 0
+abbrev pub IsOperand : CommandForm → ℕ → List ℕ → Type 0
 IsOperand shape count word =
-    (place : Place) × (slice_get shape.operands count ≡ Some place) × (fits place.kind word ≡ true)
+    (place : OperandRule) × (slice_get shape.operands count ≡ Some place) × (fits place.kind word ≡ true)
 
 -- behind these options and so many operands, the items are what the command takes: each option at most once, in any
 -- place, and every operand
-abbrev pub Complete : Shape → List (List ℕ) → ℕ → List Item → Type 0
+abbrev pub Complete : CommandForm → List (List ℕ) → ℕ → List Item → Type 0
 Complete shape seen count [] = length shape.operands ≡ count
 Complete shape seen count (Apart name value ∷ items) =
     Gives shape seen name value × Complete shape (seen ++ name ∷ []) count items
@@ -79,7 +79,7 @@ pub record Given : Type 0 where
 abbrev pub option_by : List Item → Choice → List ℕ × List ℕ
 option_by items choice = (choice.name, unwrap_or (value_given choice.name items) choice.default)
 
-abbrev pub given_by : Shape → List Item → Given
+abbrev pub given_by : CommandForm → List Item → Given
 given_by shape items = record { options = map (option_by items) shape.choices; operands = operands_of items }
 
 -- the value of an option of this name, and the operand at a place; empty where there is none
@@ -99,33 +99,33 @@ pub record Asked : Type 0 where
   pub given : Given
 
 -- the words are the command's and those of the items, and these are what the command takes
-pub record IsLineOf (words : List (List ℕ)) (word : List ℕ) (shape : Shape) (items : List Item) : Type 0 where
+pub record IsLineOf (words : List (List ℕ)) (word : List ℕ) (shape : CommandForm) (items : List Item) : Type 0 where
   pub words_are : words ≡ word ∷ line_of items
   pub complete : Complete shape [] 0 items
 
 -- the words are a line of this command of the table
-abbrev pub IsLineFor : List Shape → List (List ℕ) → Shape → Type 0
+abbrev pub IsLineFor : List CommandForm → List (List ℕ) → CommandForm → Type 0
 IsLineFor table words shape =
     (shape_named table shape.word ≡ Some shape) × ((items : List Item) × IsLineOf words shape.word shape items)
 
 -- the words are a line of the table that asks for this
-pub record AsksFor (table : List Shape) (words : List (List ℕ)) (asked : Asked) : Type 0 where
-  pub shape : Shape
+pub record AsksFor (table : List CommandForm) (words : List (List ℕ)) (asked : Asked) : Type 0 where
+  pub shape : CommandForm
   pub items : List Item
   pub command : shape_named table asked.word ≡ Some shape
   pub line : IsLineOf words asked.word shape items
   pub given : asked.given ≡ given_by shape items
 
 -- the words are a line of the table
-abbrev pub IsLine : List Shape → List (List ℕ) → Type 0
+abbrev pub IsLine : List CommandForm → List (List ℕ) → Type 0
 IsLine table words = (asked : Asked) × AsksFor table words asked
 
 -- some line of the table begins with these words
-abbrev pub BeginsLine : List Shape → List (List ℕ) → Type 0
+abbrev pub BeginsLine : List CommandForm → List (List ℕ) → Type 0
 BeginsLine table words = (more : List (List ℕ)) × IsLine table (words ++ more)
 
 -- place `k`, from 0, has the first word that no line has there; or `k` is the number of words, and more would have to
 -- follow
-pub record IsFirstWrong (table : List Shape) (words : List (List ℕ)) (k : ℕ) : Type 0 where
+pub record IsFirstWrong (table : List CommandForm) (words : List (List ℕ)) (k : ℕ) : Type 0 where
   pub before : BeginsLine table (take k words)
   pub wrong : (BeginsLine table (take (k + 1) words) → ⊥) ⊎ ((k ≡ length words) × (IsLine table words → ⊥))

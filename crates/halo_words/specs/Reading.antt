@@ -2,7 +2,7 @@
 use Rattle.std.specs.Prelude.{◌≡◌, ℕ, ◌+◌, ◌==◌, ◌&&◌, ◌||◌, ◌⊎◌, Bool, true, false, not, List, [], ◌∷◌, ◌++◌, length}
 use Rattle.std.specs.Prelude.{take, slice_get, Option, Some, None, is_some, option_map, codes, bytes_eq, if◌then◌else◌}
 use Rattle.text_fields.specs.Reading.{after_front, cut_at, ◌>>=◌}
-use Rattle.halo_words.specs.Table.{Choice, Place, Shape, fits, choice_named, choice_of}
+use Rattle.halo_words.specs.Table.{Choice, OperandRule, CommandForm, fits, choice_named, choice_of}
 use Rattle.halo_words.specs.Grammar.{is_among}
 use Rattle.halo_words.specs.declared.reading.Read.{Read}
 
@@ -60,7 +60,7 @@ value_met choice r word =
     if fits choice.kind word then Some (idle (r.seen ++ named word) r.count) else None
 
 -- a word is the next operand
-abbrev pub operand_met : Option Place → Reading → List ℕ → Option Reading
+abbrev pub operand_met : Option OperandRule → Reading → List ℕ → Option Reading
 operand_met None r word = None
 operand_met (Some place) r word =
     if fits place.kind word then Some (idle (r.seen ++ named word) (r.count + 1)) else None
@@ -81,32 +81,32 @@ abbrev pub option_met : List Choice → List ℕ → Option (List ℕ × List �
 option_met choices rest None r word = apart_met (choice_named choices rest) rest r word
 option_met choices rest (Some parts) r word = joined_met (choice_named choices parts.0) parts.0 parts.1 r word
 
-abbrev pub idle_met : Shape → Option (List ℕ) → Reading → List ℕ → Option Reading
+abbrev pub idle_met : CommandForm → Option (List ℕ) → Reading → List ℕ → Option Reading
 idle_met shape None r word = operand_met (slice_get shape.operands r.count) r word
 idle_met shape (Some rest) r word = option_met shape.choices rest (cut_at 61 rest) r word
 
-abbrev pub met : Shape → Option Choice → Reading → List ℕ → Option Reading
+abbrev pub met : CommandForm → Option Choice → Reading → List ℕ → Option Reading
 met shape (Some choice) r word = value_met choice r word
 met shape None r word = idle_met shape (after_front (codes "--") word) r word
 
 -- what one more word comes to; none, if it may not stand there
-unfoldable pub step : Shape → Reading → List ℕ → Option Reading
+unfoldable pub step : CommandForm → Reading → List ℕ → Option Reading
 step shape r word = met shape r.waiting r word
 
-abbrev pub read_on : Shape → Reading → List (List ℕ) → Option Reading
+abbrev pub read_on : CommandForm → Reading → List (List ℕ) → Option Reading
 read_on shape r [] = Some r
 read_on shape r (word ∷ words) = step shape r word >>= λ next. read_on shape next words
 
 -- the line may end here
-abbrev pub is_end : Shape → Reading → Bool
+abbrev pub is_end : CommandForm → Reading → Bool
 is_end shape r = not (is_some r.waiting) && (length shape.operands == r.count)
 
 -- the words, read on from here, end a line
-abbrev pub Ends : Shape → Reading → List (List ℕ) → Type 0
+abbrev pub Ends : CommandForm → Reading → List (List ℕ) → Type 0
 Ends shape r words = (last : Reading) × (read_on shape r words ≡ Some last) × (is_end shape last ≡ true)
 
 -- the words up to place `at` are read on, and the word there isn't; or all are, and more would have to follow
-abbrev pub StopsAt : Shape → List (List ℕ) → ℕ → Type 0
+abbrev pub StopsAt : CommandForm → List (List ℕ) → ℕ → Type 0
 StopsAt shape words at = (r : Reading) × (read_on shape (idle [] 0) (take at words) ≡ Some r)
     × (((word : List ℕ) × (slice_get words at ≡ Some word) × (step shape r word ≡ None))
     ⊎ ((at ≡ length words) × (is_end shape r ≡ false)))

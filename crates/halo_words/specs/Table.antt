@@ -15,15 +15,15 @@ pub record Choice : Type 0 where
   pub default : List ℕ
 
 -- an operand: its name in texts for people, and what it may be
-pub record Place : Type 0 where
+pub record OperandRule : Type 0 where
   pub name : List ℕ
   pub kind : Kind
 
 -- a command: its word, its options, and its operands in their order
-pub record Shape : Type 0 where
+pub record CommandForm : Type 0 where
   pub word : List ℕ
   pub choices : List Choice
-  pub operands : List Place
+  pub operands : List OperandRule
 
 -- a text that isn't empty and doesn't begin with `-`
 abbrev pub is_plain : List ℕ → Bool
@@ -49,22 +49,22 @@ abbrev pub choice_named : List Choice → List ℕ → Option Choice
 choice_named [] name = None
 choice_named (choice ∷ choices) name = if bytes_eq choice.name name then Some choice else choice_named choices name
 
-abbrev pub shape_named : List Shape → List ℕ → Option Shape
+abbrev pub shape_named : List CommandForm → List ℕ → Option CommandForm
 shape_named [] word = None
 shape_named (shape ∷ shapes) word = if bytes_eq shape.word word then Some shape else shape_named shapes word
 
 -- ---- the commands
 
-abbrev pub plan_name : Place
+abbrev pub plan_name : OperandRule
 plan_name = record { name = codes "PLAN"; kind = Name }
 
-abbrev pub file_name : Place
+abbrev pub file_name : OperandRule
 file_name = record { name = codes "FILE"; kind = Name }
 
 abbrev pub steps : Choice
 steps = record { name = codes "steps"; kind = Number 0 4294967295; default = codes "100000000" }
 
-abbrev pub profile_name : Place
+abbrev pub profile_name : OperandRule
 profile_name = record { name = codes "PROFILE"; kind = Name }
 
 -- the area: how many chunks, how many granules each has as a power of 2, and how many granules the fallback has
@@ -101,12 +101,12 @@ abbrev pub optimise_choices : List Choice
 optimise_choices = steps ∷ distance ∷ plan_choices
 
 -- how many nodes a generated program allocates for each of its lists
-abbrev pub node_count : Place
+abbrev pub node_count : OperandRule
 node_count = record { name = codes "N"; kind = Number 1 30000 }
 
 -- `rewrite PLAN FILE`, `optimise [OPTION]... FILE`, `run [--steps N] FILE`, `symbols [--steps N] PLAN FILE`,
 -- `profile [OPTION]... FILE`, `plan [OPTION]... PROFILE`, `show FILE`, `gen N` and `self N`
-unfoldable pub the_table : List Shape
+unfoldable pub the_table : List CommandForm
 the_table = record { word = codes "rewrite"; choices = []; operands = plan_name ∷ file_name ∷ [] }
     ∷ record { word = codes "optimise"; choices = optimise_choices; operands = file_name ∷ [] }
     ∷ record { word = codes "run"; choices = steps ∷ []; operands = file_name ∷ [] }
@@ -122,10 +122,10 @@ the_table = record { word = codes "rewrite"; choices = []; operands = plan_name 
 abbrev pub choice_of : Setting → Choice
 choice_of setting = record { name = setting.name.now; kind = setting.kind; default = setting.default.now }
 
-abbrev pub place_of : Operand → Place
+abbrev pub place_of : Operand → OperandRule
 place_of operand = record { name = operand.name.now; kind = operand.kind }
 
-abbrev pub shape_of : Form → Shape
+abbrev pub shape_of : Form → CommandForm
 shape_of form = record {
   word = form.word.now;
   choices = map choice_of form.settings.now;
