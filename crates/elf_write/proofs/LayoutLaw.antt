@@ -13,7 +13,7 @@ use Rattle.elf_spec.specs.Records.{e_phnum, e_phoff, e_shnum, e_shoff, entries, 
 use Rattle.elf_spec.specs.Records.{segments_of}
 use Rattle.elf_write.specs.Ends.{new_length}
 use Rattle.elf_write.specs.Inputs.{HasTable, IsInside}
-use Rattle.elf_write.specs.Layout.{AreApart, IsBeside, IsKept, IsWithin, NewLayout, file_part, headers_added}
+use Rattle.elf_write.specs.Layout.{AreDisjointPatches, IsBeside, IsKept, IsWithin, NewLayout, file_part, headers_added}
 use Rattle.elf_write.proofs.Written.{byte-front, byte-patched, front_patched, front_phnum, front_phoff, length-front}
 use Rattle.elf_write.proofs.Written.{half_same, word-bytes, word_same}
 use Rattle.elf_write.proofs.Headers.{entries-add, entries_same, headers_back, length-contents, length-new_headers}
@@ -232,14 +232,14 @@ new_sections old ps ss h w t =
     (new_kept old ps ss (word_at old 32 + (40 * k + j)) (t (40 * k + j) (omega arith))))))
 
 -- the patched words
-new_patched : (old : List ℕ) (ps : List Patch) (ss : List NewSegment) → IsReady old ps → AreApart ps
+new_patched : (old : List ℕ) (ps : List Patch) (ss : List NewSegment) → IsReady old ps → AreDisjointPatches ps
     → All (λ p. (k : ℕ) → k < 4 → slice_index (new_file old ps ss) (p.offset + k) ≡ slice_index (word_bytes p.word) k)
     ps
 new_patched old ps ss r a = λ j d l k m.
     let inside : (get_or ps j d).offset + 4 ≤ length old = r.inside j d l in
     byte-new_file old ps ss _ (omega arith) ∙ front_patched old ps (length ss) a r.inside j d l k m
 
-new_patched_words : (old : List ℕ) (ps : List Patch) (ss : List NewSegment) → IsReady old ps → AreApart ps
+new_patched_words : (old : List ℕ) (ps : List Patch) (ss : List NewSegment) → IsReady old ps → AreDisjointPatches ps
     → All (λ p. word_at (new_file old ps ss) p.offset ≡ p.word) ps
 new_patched_words old ps ss r a = λ j d l.
     word_same (new_file old ps ss) (word_bytes (get_or ps j d).word) (get_or ps j d).offset 0 (λ k m.

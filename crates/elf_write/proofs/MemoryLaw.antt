@@ -20,9 +20,9 @@ use Rattle.elf_spec.specs.NewFile.{up4096}
 use Rattle.elf_spec.specs.Records.{e_phnum, segments_of}
 use Rattle.elf_read.specs.Readable.{IsInside as IsSegmentInside, IsLoadedInside}
 use Rattle.machine_spec.specs.Memory.{Range, Shape, covers, range_of, shape_of, stack, memory_of, byte_of}
-use Rattle.elf_write.specs.Layout.{AreApart, NewLayout, added_header, added_headers, file_part, headers_added}
+use Rattle.elf_write.specs.Layout.{AreDisjointPatches, NewLayout, added_header, added_headers, file_part, headers_added}
 use Rattle.elf_write.specs.NewMemory.{NewMemory, has_memory, range_added, ranges_behind}
-use Rattle.elf_write.specs.Places.{InFile, Place, Zero, byte_in, is_between, place_at, place_in}
+use Rattle.elf_write.specs.Places.{InFile, Source, Zero, byte_in, is_between, place_at, place_in}
 use Rattle.elf_write.proofs.LayoutLaw.{IsReady, front_first, gap, new_layout, old_table}
 use Rattle.elf_write.proofs.Written.{all_head, all_tail, byte-front, byte-patched, byte-put_half, byte_written}
 use Rattle.elf_write.proofs.Written.{front_patched, length-front, length-patched, length-put_word}
@@ -139,7 +139,7 @@ range_byte f h a inside = at (nat_lt (a - h.vaddr) h.file_size) refl
         ∙ zero_read (h.mem_size - h.file_size) (a - h.vaddr - h.file_size)
 
 -- a byte of memory, by its place
-abbrev seen : List ℕ → Option Place → Option ℕ → Option ℕ
+abbrev seen : List ℕ → Option Source → Option ℕ → Option ℕ
 seen f (Some p) o = Some (byte_in f p)
 seen f None o = o
 
@@ -263,7 +263,7 @@ shapes_same f g (h ∷ hs) e w = at (is_loaded h) refl (shapes_same f g hs e
         ∙ ap (λ rest. shape_with h (length (range_of g h).bytes) ∷ rest) more
     at false t more = more
 
-pub new_memory : (old : List ℕ) (ps : List Patch) (ss : List NewSegment) → IsReady old ps → AreApart ps
+pub new_memory : (old : List ℕ) (ps : List Patch) (ss : List NewSegment) → IsReady old ps → AreDisjointPatches ps
     → All (IsLoadedInside (length old)) (segments_of old) → e_phnum old + length ss < 65536
     → NewMemory old ps ss (new_file old ps ss)
 new_memory old ps ss r apart w few = record {
@@ -294,6 +294,6 @@ new_memory old ps ss r apart w few = record {
         ap (λ m. byte_of m a) (new_ranges old ps ss r w) ∙ byte_seen (front old ps (length ss)) (segments_of old)
         (ranges_behind ss) a inside
 
-    new_byte : (a : ℕ) (p : Place) → place_at (segments_of old) a ≡ Some p
+    new_byte : (a : ℕ) (p : Source) → place_at (segments_of old) a ≡ Some p
         → byte_of (memory_of (new_file old ps ss)) a ≡ Some (byte_in (front old ps (length ss)) p)
     new_byte a p e = new_seen a ∙ ap (λ o. seen (front old ps (length ss)) o (byte_of (ranges_behind ss) a)) e

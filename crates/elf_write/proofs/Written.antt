@@ -10,7 +10,7 @@ use Rattle.elf_spec.specs.Fields.{half_at, word_at, word_bytes}
 use Rattle.elf_spec.specs.NewFile.{put_half, put_word, patched, front, up16}
 use Rattle.elf_spec.specs.Records.{e_phnum}
 use Rattle.elf_write.specs.Inputs.{IsInside}
-use Rattle.elf_write.specs.Layout.{AreApart, IsApart, IsBeside}
+use Rattle.elf_write.specs.Layout.{AreDisjointPatches, IsApart, IsBeside}
 
 -- `All` over a list that begins with an element
 pub all_head : {A : Type 0} (P : A → Type 0) (x : A) (xs : List A) → All P (x ∷ xs) → P x
@@ -101,7 +101,7 @@ beside_from_apart p q k l (inl a) = inl (omega arith)
 beside_from_apart p q k l (inr a) = inr (omega arith)
 
 -- each of the patches that are apart stands in the patched bytes
-pub patched_written : (ps : List Patch) (bs : List ℕ) → AreApart ps → All (IsInside (length bs)) ps
+pub patched_written : (ps : List Patch) (bs : List ℕ) → AreDisjointPatches ps → All (IsInside (length bs)) ps
     → All (λ p. (k : ℕ) → k < 4 → slice_index (patched ps bs) (p.offset + k) ≡ slice_index (word_bytes p.word) k) ps
 patched_written [] bs a w = λ k d l. absurd (omega arith)
 patched_written (p ∷ ps) bs a w =
@@ -117,7 +117,7 @@ patched_written (p ∷ ps) bs a w =
     (patched_written ps more a.1.1 inside)
 
 -- patches that are apart are behind the file header
-pub behind_header : (ps : List Patch) → AreApart ps → All (λ p. 52 ≤ p.offset) ps
+pub behind_header : (ps : List Patch) → AreDisjointPatches ps → All (λ p. 52 ≤ p.offset) ps
 behind_header [] a = λ k d l. absurd (omega arith)
 behind_header (p ∷ ps) a = All-cons (λ q. 52 ≤ q.offset) p ps a.0 (behind_header ps a.1.1)
 
@@ -149,7 +149,7 @@ front_phnum old ps more h =
     length-put_word 28 _ (patched ps old) ∙ length-patched ps old in
     half_written 44 _ _ (omega arith)
 
-pub front_patched : (old : List ℕ) (ps : List Patch) (more : ℕ) → AreApart ps → All (IsInside (length old)) ps
+pub front_patched : (old : List ℕ) (ps : List Patch) (more : ℕ) → AreDisjointPatches ps → All (IsInside (length old)) ps
     → All (λ p. (k : ℕ) → k < 4 → slice_index (front old ps more) (p.offset + k) ≡ slice_index (word_bytes p.word) k) ps
 front_patched old ps more a w = λ j d l k m.
     let far : 52 ≤ (get_or ps j d).offset = behind_header ps a j d l in

@@ -58,9 +58,9 @@ abbrev pub IsApart : Patch → Patch → Type 0
 IsApart p q = (p.offset + 4 ≤ q.offset) ⊎ (q.offset + 4 ≤ p.offset)
 
 -- no two of the patches share a byte, and each is behind the file header
-abbrev pub AreApart : List Patch → Type 0
-AreApart [] = Unit {0}
-AreApart (p ∷ ps) = (52 ≤ p.offset) × (All (IsApart p) ps × AreApart ps)
+abbrev pub AreDisjointPatches : List Patch → Type 0
+AreDisjointPatches [] = Unit {0}
+AreDisjointPatches (p ∷ ps) = (52 ≤ p.offset) × (All (IsApart p) ps × AreDisjointPatches ps)
 
 -- a new file, made of a file with patches and added segments
 pub record NewLayout (file : List ℕ) (patches : List Patch) (segments : List NewSegment) (new : List ℕ) : Type 0 where
@@ -85,6 +85,6 @@ pub record NewLayout (file : List ℕ) (patches : List Patch) (segments : List N
   pub sections : All (λ p. 52 ≤ p.offset) patches → ((k : ℕ) → k < 40 * e_shnum file
       → IsKept (length file) patches (e_shoff file + k)) → sections_of new ≡ sections_of file
   -- each patched word, byte for byte and as a number
-  pub patched_bytes : AreApart patches → All (λ p. (k : ℕ) → k < 4
+  pub patched_bytes : AreDisjointPatches patches → All (λ p. (k : ℕ) → k < 4
       → byte_at new (p.offset + k) ≡ slice_index (word_bytes p.word) k) patches
-  pub patched_words : AreApart patches → All (λ p. word_at new p.offset ≡ p.word) patches
+  pub patched_words : AreDisjointPatches patches → All (λ p. word_at new p.offset ≡ p.word) patches

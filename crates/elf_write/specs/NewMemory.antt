@@ -10,7 +10,7 @@ use Rattle.elf_spec.specs.NewFile.{front, up16}
 use Rattle.elf_spec.specs.Records.{e_phnum, segments_of}
 use Rattle.machine_spec.specs.Memory.{Range, range_of, shape_of, stack, memory_of, byte_of}
 use Rattle.elf_write.specs.Layout.{IsKept}
-use Rattle.elf_write.specs.Places.{InFile, Place, Zero, byte_in, place_at}
+use Rattle.elf_write.specs.Places.{InFile, Source, Zero, byte_in, place_at}
 
 -- the segment takes memory
 abbrev pub has_memory : NewSegment → Bool
@@ -40,7 +40,7 @@ pub record NewMemory (file : List ℕ) (patches : List Patch) (segments : List N
       ++ map shape_of (ranges_behind segments)
   -- what the old program headers put at an address was there before, and is there now where the old
   -- byte is kept or is zero fill
-  pub before : (a : ℕ) (p : Place) → place_at (segments_of file) a ≡ Some p
+  pub before : (a : ℕ) (p : Source) → place_at (segments_of file) a ≡ Some p
       → byte_of (memory_of file) a ≡ Some (byte_in file p)
   pub kept : (a i : ℕ) → place_at (segments_of file) a ≡ Some (InFile i) → IsKept (length file) patches i
       → byte_of (memory_of new) a ≡ byte_of (memory_of file) a

@@ -5,7 +5,7 @@ ghost use Rattle.elf_spec.specs.Records.{e_phnum};
 ghost use Rattle.elf_read.specs.Elf.{IsReadFrom, IsReadable};
 ghost use Rattle.elf_write.specs.Inputs.{IsInside, IsSmall};
 ghost use Rattle.elf_write.specs.Kept.{AreAddedAbove, AreFieldsAlone, AreTablesUnpatched, DoHeadersPass};
-ghost use Rattle.elf_write.specs.Layout.{AreApart, NewLayout};
+ghost use Rattle.elf_write.specs.Layout.{AreDisjointPatches, NewLayout};
 ghost use Rattle.elf_write.specs.NewMemory.{NewMemory};
 
 use crate::with_new_segments;
@@ -29,7 +29,7 @@ pub fn with_segments(
     requires fits_32_mib { length file.now ≤ 33554432 }
     requires has_few_headers { e_phnum file.now ≤ 64 }
     requires patches_inside { All (IsInside (length file.now)) patches.now }
-    requires patches_apart { AreApart patches.now }
+    requires patches_apart { AreDisjointPatches patches.now }
     requires few_segments { length segments.now ≤ 2 }
     requires small_segments { All IsSmall segments.now }
     ensures is { IfOk result (λ new. new.items ≡ new_file file.now patches.now segments.now) }

@@ -15,7 +15,7 @@ use Rattle.elf_read.specs.Checks.{is_shared}
 use Rattle.elf_read.specs.Refusals.{memory_size}
 use Rattle.elf_write.specs.Inputs.{IsInside, IsSmall}
 use Rattle.elf_write.specs.Kept.{AreAddedAbove}
-use Rattle.elf_write.specs.Layout.{AreApart, IsApart}
+use Rattle.elf_write.specs.Layout.{AreDisjointPatches, IsApart}
 use Rattle.exec_image.specs.Accepted.{AcceptedFacts}
 use Rattle.plan_core.specs.declared.types.Plan.{Plan}
 use Rattle.plan_core.specs.declared.types.PlanLine.{PlanLine}
@@ -38,7 +38,8 @@ use Rattle.new_file_laws.proofs.HeapEntries.{two_words}
 use Rattle.new_file_laws.proofs.Texts.{AreTables, Sizes, length-heap_text, short_text, tables_fit}
 
 -- two lists of patches that are apart, and apart from each other, are apart
-apart_append : (ps qs : List Patch) → AreApart ps → AreApart qs → All (λ p. All (IsApart p) qs) ps → AreApart (ps ++ qs)
+apart_append : (ps qs : List Patch) → AreDisjointPatches ps → AreDisjointPatches qs
+    → All (λ p. All (IsApart p) qs) ps → AreDisjointPatches (ps ++ qs)
 apart_append [] qs first second between = second
 apart_append (p ∷ ps) qs (low, (rest, more)) second between = (
   low,
@@ -49,12 +50,12 @@ apart_append (p ∷ ps) qs (low, (rest, more)) second between = (
 )
 
 -- the patches of successive words are apart
-words_at_apart : (file : List ℕ) (a : ℕ) (ws : List ℕ) → AcceptedFacts file → AreApart (patches_at file a ws)
+words_at_apart : (file : List ℕ) (a : ℕ) (ws : List ℕ) → AcceptedFacts file → AreDisjointPatches (patches_at file a ws)
 words_at_apart file a [] facts = tt
 words_at_apart file a (w ∷ ws) facts = by_place (words_at_apart file (a + 4) ws facts) (code_place file a) refl
   where
-    by_place : AreApart (patches_at file (a + 4) ws) → (o : Option ℕ) → code_place file a ≡ o
-        → AreApart (patch_to w o ++ patches_at file (a + 4) ws)
+    by_place : AreDisjointPatches (patches_at file (a + 4) ws) → (o : Option ℕ) → code_place file a ≡ o
+        → AreDisjointPatches (patch_to w o ++ patches_at file (a + 4) ws)
     by_place rest None e = rest
     by_place rest (Some place) e = (
       behind_header file a place facts e,
@@ -70,10 +71,10 @@ words_at_apart file a (w ∷ ws) facts = by_place (words_at_apart file (a + 4) w
 
 jumps_apart : (file : List ℕ) (n : ℕ) (lines : List PlanLine) → AcceptedFacts file → All (IsSiteLine file) lines
     → AllPairs (λ l m. l.addr ≢ m.addr) lines
-    → AreApart (patches_from file n lines)
+    → AreDisjointPatches (patches_from file n lines)
 jumps_apart file n [] facts h once = tt
 jumps_apart file n (line ∷ lines) facts h once =
-    subst AreApart (sym (patches_step file n line lines l.site l.at))
+    subst AreDisjointPatches (sym (patches_step file n line lines l.site l.at))
     (apart_append (patches_at file line.addr words) (patches_from file (n + 1) lines)
     (words_at_apart file line.addr words facts)
     (jumps_apart file (n + 1) lines facts (All-tail (IsSiteLine file) line lines h)
@@ -174,7 +175,7 @@ entries_differ a b i j apart l m same =
     cc
 
 names_apart : (file : List ℕ) (at : Entries) (names : List HeapName) → AcceptedFacts file
-    → AllPairs (λ n m. n ≢ m) names → AreApart (flat_map (patches_of file at) names)
+    → AllPairs (λ n m. n ≢ m) names → AreDisjointPatches (flat_map (patches_of file at) names)
 names_apart file at [] facts once = tt
 names_apart file at (name ∷ names) facts once =
     by_entry (names_apart file at names facts
@@ -186,8 +187,8 @@ names_apart file at (name ∷ names) facts once =
         let value : get_or names k name ≡ other = get_or_from_slice_get names k other name e in
         subst (λ (x : HeapName). name ≢ x) value (once 0 (suc k) name (omega arith) (omega (arith, below)))
 
-    by_entry : AreApart (flat_map (patches_of file at) names) → (o : Option ℕ) → heap_entry file name ≡ o
-        → AreApart (heap_patch file (entry_of at name) o ++ flat_map (patches_of file at) names)
+    by_entry : AreDisjointPatches (flat_map (patches_of file at) names) → (o : Option ℕ) → heap_entry file name ≡ o
+        → AreDisjointPatches (heap_patch file (entry_of at name) o ++ flat_map (patches_of file at) names)
     by_entry rest None named = rest
     by_entry rest (Some e) named =
         apart_append (patches_at file e words) (flat_map (patches_of file at) names) (words_at_apart file e words facts)
@@ -221,7 +222,7 @@ site_and_entry file plan at p q facts (k, line, s, e, site, (i, place, word)) (n
     let clash : true ≡ false = sym heap ∙ (sym (ap (is_heap_word file) same) ∙ none) in cc)
 
 all_apart : (file : List ℕ) (plan : Plan) (at : Entries) → AcceptedFacts file → Fits file plan
-    → AreApart (patches_for file plan ++ heap_patches file at)
+    → AreDisjointPatches (patches_for file plan ++ heap_patches file at)
 all_apart file plan at facts fits =
     apart_append (patches_for file plan) (heap_patches file at)
     (jumps_apart file 0 plan.sites facts (site_lines file plan fits) fits.once)

@@ -6,7 +6,7 @@ use Rattle.elf_spec.specs.Code.{is_executable}
 use Rattle.elf_spec.specs.Records.{sections_of}
 use Rattle.elf_write.specs.Inputs.{IsInside, IsSmall}
 use Rattle.elf_write.specs.Kept.{AreAddedAbove, AreTablesUnpatched}
-use Rattle.elf_write.specs.Layout.{AreApart}
+use Rattle.elf_write.specs.Layout.{AreDisjointPatches}
 
 -- the patch lies in an executable section
 abbrev pub IsInCode : List ℕ → Patch → Type 0
@@ -17,7 +17,7 @@ IsInCode file p =
 -- read again, where no table lies over e_phoff and e_phnum
 pub record AreParts (file : List ℕ) (patches : List Patch) (segments : List NewSegment) : Type 0 where
   pub inside : All (IsInside (length file)) patches
-  pub apart : AreApart patches
+  pub apart : AreDisjointPatches patches
   pub unpatched : AreTablesUnpatched file patches
   pub above : AreAddedAbove file segments
   pub small : All IsSmall segments

@@ -23,7 +23,7 @@ use Rattle.new_file_spec.specs.Rewritten.{NewFile, data_segment, has_heap, heap_
 use Rattle.new_file_spec.specs.Rewritten.{patches_for, rewritten, segments_for, text_segment}
 use Rattle.elf_read.specs.Elf.{IsReadable}
 use Rattle.elf_write.specs.Kept.{AreAddedAbove, AreFieldsAlone, AreTablesUnpatched, DoHeadersPass}
-use Rattle.elf_write.specs.Layout.{AreApart, IsBeside, IsKept, NewLayout}
+use Rattle.elf_write.specs.Layout.{AreDisjointPatches, IsBeside, IsKept, NewLayout}
 use Rattle.exec_image.specs.Images.{IsAccepted}
 use Rattle.exec_image.specs.PlanFaults.{plan_fault}
 use Rattle.match_spec.specs.Keeps.{Keeps, Reaches}
@@ -32,13 +32,13 @@ use Rattle.new_file_laws.specs.Behaviour.{KeepsBehaviour}
 use Rattle.new_file_laws.specs.Parts.{AreParts}
 use Rattle.rewriter.specs.Rewrites.{IsRewritten}
 
-beside_header : (i : ℕ) (ps : List Patch) → i < 52 → AreApart ps → All (λ p. IsBeside p.offset 4 i) ps
+beside_header : (i : ℕ) (ps : List Patch) → i < 52 → AreDisjointPatches ps → All (λ p. IsBeside p.offset 4 i) ps
 beside_header i [] l apart = All-nil (λ p. IsBeside p.offset 4 i)
 beside_header i (p ∷ ps) l (behind, (others, rest)) =
     All-cons (λ p. IsBeside p.offset 4 i) p ps (inl (omega (arith, l, behind))) (beside_header i ps l rest)
 
 -- the file header is kept up to e_phoff
-header_kept : (n i : ℕ) (ps : List Patch) → 52 ≤ n → i < 28 → AreApart ps → IsKept n ps i
+header_kept : (n i : ℕ) (ps : List Patch) → 52 ≤ n → i < 28 → AreDisjointPatches ps → IsKept n ps i
 header_kept n i ps long l apart = record {
   inside = omega (arith, long, l);
   no_phoff = inl l;
@@ -48,7 +48,7 @@ header_kept n i ps long l apart = record {
 
 entry_kept : (file : List ℕ) (patches : List Patch) (segments : List NewSegment) (new : List ℕ)
     → NewLayout file patches segments new → 52 ≤ length file
-    → AreApart patches → e_entry new ≡ e_entry file
+    → AreDisjointPatches patches → e_entry new ≡ e_entry file
 entry_kept file patches segments new layout long apart =
     layout.kept_words 24 (λ k l. header_kept (length file) (24 + k) patches long (omega (arith, l)) apart)
 
