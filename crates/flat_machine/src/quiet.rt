@@ -54,25 +54,6 @@ fn act(memory: &mut FlatMem, registers: &mut Registers, pc: u32, i: Instr) -> Op
     ensures { Acts result i (running_at memory.old registers.old pc) memory.new registers.new }
 {
     match i {
-        Instr::Lui { rd, imm } => Some(give(registers, rd, imm, pc)),
-        Instr::Auipc { rd, imm } => Some(give(registers, rd, pc.wrapping_add(imm), pc)),
-        Instr::Jal { rd, imm } => jump(registers, rd, pc.wrapping_add(imm), pc),
-        Instr::Jalr { rd, rs1, imm } => {
-            let target = address(registers, rs1, imm) / 2 * 2;
-            jump(registers, rd, target, pc)
-        }
-        Instr::Branch {
-            cond,
-            rs1,
-            rs2,
-            imm,
-        } => {
-            if is_held(cond, registers.read(rs1), registers.read(rs2)) {
-                jump(registers, 0, pc.wrapping_add(imm), pc)
-            } else {
-                Some(pc.wrapping_add(4))
-            }
-        }
         Instr::Load {
             width,
             rd,
@@ -95,6 +76,37 @@ fn act(memory: &mut FlatMem, registers: &mut Registers, pc: u32, i: Instr) -> Op
                 None
             }
         }
+        _ => act_in_registers(registers, pc, i),
+    }
+}
+
+/// The same, of an instruction that neither reads nor writes memory.
+#[inline(always)]
+#[tactic(auto, unfolding(flat_spec::specs::Turns::acts))]
+fn act_in_registers(registers: &mut Registers, pc: u32, i: Instr) -> Option<u32>
+    requires { NamesRegisters i }
+    ensures { (memory : List Range) → Acts result i (running_at memory registers.old pc) memory registers.new }
+{
+    match i {
+        Instr::Lui { rd, imm } => Some(give(registers, rd, imm, pc)),
+        Instr::Auipc { rd, imm } => Some(give(registers, rd, pc.wrapping_add(imm), pc)),
+        Instr::Jal { rd, imm } => jump(registers, rd, pc.wrapping_add(imm), pc),
+        Instr::Jalr { rd, rs1, imm } => {
+            let target = address(registers, rs1, imm) / 2 * 2;
+            jump(registers, rd, target, pc)
+        }
+        Instr::Branch {
+            cond,
+            rs1,
+            rs2,
+            imm,
+        } => {
+            if is_held(cond, registers.read(rs1), registers.read(rs2)) {
+                jump(registers, 0, pc.wrapping_add(imm), pc)
+            } else {
+                Some(pc.wrapping_add(4))
+            }
+        }
         Instr::OpImm { op, rd, rs1, imm } => {
             let value = computed(op, registers.read(rs1), imm);
             Some(give(registers, rd, value, pc))
@@ -104,7 +116,7 @@ fn act(memory: &mut FlatMem, registers: &mut Registers, pc: u32, i: Instr) -> Op
             Some(give(registers, rd, value, pc))
         }
         Instr::Fence { .. } => Some(pc.wrapping_add(4)),
-        Instr::Ecall | Instr::Ebreak => None,
+        Instr::Load { .. } | Instr::Store { .. } | Instr::Ecall | Instr::Ebreak => None,
     }
 }
 
