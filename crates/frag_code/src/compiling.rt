@@ -37,42 +37,10 @@ fn emit(code: &mut Vec<u32>, f: &Frag) -> Result<(), AllocError>
     match f {
         Frag::Skip => Ok(()),
         Frag::Set { rd, value } => emit_set(code, *rd, *value),
-        Frag::Op { op, rd, rs1, rs2 } => put(
-            code,
-            Instr::Reg {
-                op: *op,
-                rd: *rd,
-                rs1: *rs1,
-                rs2: *rs2,
-            },
-        ),
-        Frag::Imm { op, rd, rs1, imm } => put(
-            code,
-            Instr::OpImm {
-                op: *op,
-                rd: *rd,
-                rs1: *rs1,
-                imm: *imm,
-            },
-        ),
-        Frag::Load { rd, rs1, offset } => put(
-            code,
-            Instr::Load {
-                width: Width::Word,
-                rd: *rd,
-                rs1: *rs1,
-                imm: *offset,
-            },
-        ),
-        Frag::Store { rs1, rs2, offset } => put(
-            code,
-            Instr::Store {
-                width: Width::Word,
-                rs1: *rs1,
-                rs2: *rs2,
-                imm: *offset,
-            },
-        ),
+        Frag::Op { op, rd, rs1, rs2 } => put_op(code, *op, *rd, *rs1, *rs2),
+        Frag::Imm { op, rd, rs1, imm } => put_immediate(code, *op, *rd, *rs1, *imm),
+        Frag::Load { rd, rs1, offset } => put_load(code, *rd, *rs1, *offset),
+        Frag::Store { rs1, rs2, offset } => put_store(code, *rs1, *rs2, *offset),
         Frag::Seq { first, second } => {
             emit(code, first)?;
             emit(code, second)
@@ -118,6 +86,56 @@ fn emit_set(code: &mut Vec<u32>, rd: u8, value: u32) -> Result<(), AllocError>
             rd,
             rs1: rd,
             imm: lower,
+        },
+    )
+}
+
+/// An operation of two registers.
+fn put_op(code: &mut Vec<u32>, op: Op, rd: u8, rs1: u8, rs2: u8) -> Result<(), AllocError>
+    requires { words.IsFormed (Instr.Reg op rd rs1 rs2) }
+    ensures { OnOk result (code.new.items ≡ code.old.items ++ encoded (Instr.Reg op rd rs1 rs2) ∷ []) }
+{
+    put(code, Instr::Reg { op, rd, rs1, rs2 })
+}
+
+/// An operation of a register and a number.
+fn put_immediate(code: &mut Vec<u32>, op: Op, rd: u8, rs1: u8, imm: u32) -> Result<(), AllocError>
+    requires { words.IsFormed (Instr.OpImm op rd rs1 imm) }
+    ensures { OnOk result (code.new.items ≡ code.old.items ++ encoded (Instr.OpImm op rd rs1 imm) ∷ []) }
+{
+    put(code, Instr::OpImm { op, rd, rs1, imm })
+}
+
+/// A word from memory into a register.
+fn put_load(code: &mut Vec<u32>, rd: u8, rs1: u8, imm: u32) -> Result<(), AllocError>
+    requires { words.IsFormed (Instr.Load Width.Word rd rs1 imm) }
+    ensures { OnOk result (code.new.items ≡ code.old.items ++ encoded (Instr.Load Width.Word rd rs1 imm) ∷ []) }
+{
+    let width = Width::Word;
+    put(
+        code,
+        Instr::Load {
+            width,
+            rd,
+            rs1,
+            imm,
+        },
+    )
+}
+
+/// A word from a register into memory.
+fn put_store(code: &mut Vec<u32>, rs1: u8, rs2: u8, imm: u32) -> Result<(), AllocError>
+    requires { words.IsFormed (Instr.Store Width.Word rs1 rs2 imm) }
+    ensures { OnOk result (code.new.items ≡ code.old.items ++ encoded (Instr.Store Width.Word rs1 rs2 imm) ∷ []) }
+{
+    let width = Width::Word;
+    put(
+        code,
+        Instr::Store {
+            width,
+            rs1,
+            rs2,
+            imm,
         },
     )
 }
