@@ -37,8 +37,8 @@ use Rattle.sym_spec.specs.declared.BlockAccess.{BlockAccess}
 use Rattle.sym_spec.specs.declared.StepNote.{StepNote}
 use Rattle.sym_spec.specs.Plain.{is_plain, is_plain_store}
 use Rattle.sym_spec.specs.SymMachine.{SymMachine, lives_of, value_of, faults, loads, stores, links, jumps, goes_back}
-use Rattle.sym_spec.specs.SymCalls.{SymTurn, quiet, answers, word_in, pointer_in, buffer_in, reads_into, reads_to}
-use Rattle.sym_spec.specs.SymCalls.{writes_known, writes_from, reads, writes, calls_with, calls_by, calls}
+use Rattle.sym_spec.specs.SymCalls.{SymTurn, quiet, answers, number_of_value, pointer_in, buffer_in, reads_into}
+use Rattle.sym_spec.specs.SymCalls.{reads_to, writes_known, writes_from, reads, writes, calls_with, calls_by, calls}
 use Rattle.sym_spec.specs.SymTurns.{Here, Nothing, Heap, Pair, Code, here, address_of, jumps_to, branches, acts}
 use Rattle.sym_spec.specs.SymTurns.{executes, runs_here, turn_of, turn}
 use Rattle.sym_spec.specs.SymNotes.{empty_note, access_to, uses_buffer, buffer_access, call_access, access_of}
@@ -173,11 +173,12 @@ writes_lives file input None m = refl
 calls_with_lives : (file input : List ℕ) (call : Call) (first : Option ℕ) (m : SymMachine)
     → alive_in (calls_with file input call first m).next ≡ alive_in m
 calls_with_lives file input Read (Some fd) m =
-    either_turn (fd == 0) (reads file input (word_in (value_of m 12)) m) (quiet input (answers bad_descriptor m)) m
-    (reads_lives file input (word_in (value_of m 12)) m) refl
+    either_turn (fd == 0) (reads file input (number_of_value (value_of m 12)) m)
+    (quiet input (answers bad_descriptor m)) m
+    (reads_lives file input (number_of_value (value_of m 12)) m) refl
 calls_with_lives file input Write (Some fd) m =
-    either_turn ((fd == 1) || (fd == 2)) (writes file input (word_in (value_of m 12)) m)
-    (quiet input (answers bad_descriptor m)) m (writes_lives file input (word_in (value_of m 12)) m) refl
+    either_turn ((fd == 1) || (fd == 2)) (writes file input (number_of_value (value_of m 12)) m)
+    (quiet input (answers bad_descriptor m)) m (writes_lives file input (number_of_value (value_of m 12)) m) refl
 calls_with_lives file input Exits (Some status) m = refl
 calls_with_lives file input Brk (Some first) m = refl
 calls_with_lives file input Unknown (Some first) m = refl
@@ -189,10 +190,10 @@ calls_with_lives file input Unknown None m = refl
 
 calls_lives : (file input : List ℕ) (m : SymMachine) → alive_in (calls file input m).next ≡ alive_in m
 unfolding calls
-calls_lives file input m = by_number (word_in (value_of m 17))
+calls_lives file input m = by_number (number_of_value (value_of m 17))
   where
     by_number : (n : Option ℕ) → alive_in (calls_by file input n m).next ≡ alive_in m
-    by_number (Some number) = calls_with_lives file input (call_of number) (word_in (value_of m 10)) m
+    by_number (Some number) = calls_with_lives file input (call_of number) (number_of_value (value_of m 10)) m
     by_number None = refl
 
 executes_lives : (file : List ℕ) (plan : Plan) (input : List ℕ) (i : Option Instr) (m : SymMachine)
@@ -318,20 +319,22 @@ write_access file input (Some n) m h = by_test (n == 0) refl h
 
 with_access : (file input : List ℕ) (call : Call) (first : Option ℕ) (m : SymMachine)
     → Goes (calls_with file input call first m)
-    → Accesses (if uses_buffer call first then buffer_access (word_in (value_of m 12)) m else None) (alive_in m)
+    → Accesses (if uses_buffer call first then buffer_access (number_of_value (value_of m 12)) m else None) (alive_in m)
 with_access file input Read (Some fd) m h = by_test (fd == 0) h
   where
     by_test : (t : Bool)
-        → Goes (if t then reads file input (word_in (value_of m 12)) m else quiet input (answers bad_descriptor m))
-        → Accesses (if t then buffer_access (word_in (value_of m 12)) m else None) (alive_in m)
-    by_test true h = read_access file input (word_in (value_of m 12)) m h
+        → Goes (if t then reads file input (number_of_value (value_of m 12)) m
+        else quiet input (answers bad_descriptor m))
+        → Accesses (if t then buffer_access (number_of_value (value_of m 12)) m else None) (alive_in m)
+    by_test true h = read_access file input (number_of_value (value_of m 12)) m h
     by_test false h = tt
 with_access file input Write (Some fd) m h = by_test ((fd == 1) || (fd == 2)) h
   where
     by_test : (t : Bool)
-        → Goes (if t then writes file input (word_in (value_of m 12)) m else quiet input (answers bad_descriptor m))
-        → Accesses (if t then buffer_access (word_in (value_of m 12)) m else None) (alive_in m)
-    by_test true h = write_access file input (word_in (value_of m 12)) m h
+        → Goes (if t then writes file input (number_of_value (value_of m 12)) m
+        else quiet input (answers bad_descriptor m))
+        → Accesses (if t then buffer_access (number_of_value (value_of m 12)) m else None) (alive_in m)
+    by_test true h = write_access file input (number_of_value (value_of m 12)) m h
     by_test false h = tt
 with_access file input Exits (Some status) m h = tt
 with_access file input Brk (Some first) m h = tt
@@ -343,12 +346,12 @@ with_access file input Brk None m h = tt
 with_access file input Unknown None m h = tt
 
 ecall_access : (file input : List ℕ) (m : SymMachine) → Goes (calls file input m)
-    → Accesses (call_access (word_in (value_of m 17)) m) (alive_in m)
+    → Accesses (call_access (number_of_value (value_of m 17)) m) (alive_in m)
 unfolding calls
-ecall_access file input m h = by_number (word_in (value_of m 17)) h
+ecall_access file input m h = by_number (number_of_value (value_of m 17)) h
   where
     by_number : (n : Option ℕ) → Goes (calls_by file input n m) → Accesses (call_access n m) (alive_in m)
-    by_number (Some number) h = with_access file input (call_of number) (word_in (value_of m 10)) m h
+    by_number (Some number) h = with_access file input (call_of number) (number_of_value (value_of m 10)) m h
     by_number None h = tt
 
 executes_access : (file : List ℕ) (plan : Plan) (i : Instr) (m : SymMachine) → Goes (executes file plan [] (Some i) m)

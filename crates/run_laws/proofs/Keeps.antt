@@ -16,7 +16,7 @@ use Rattle.sym_cells.specs.Buffers.{filled, is_within, taken}
 use Rattle.sym_spec.specs.Plain.{is_plain, is_plain_store}
 use Rattle.sym_spec.specs.SymMachine.{SymMachine, lives_of, value_of, jumps, links, loads, stores}
 use Rattle.sym_spec.specs.SymCalls.{SymTurn, buffer_in, calls, calls_by, calls_with, reads, reads_into, reads_to}
-use Rattle.sym_spec.specs.SymCalls.{word_in, writes, writes_from, writes_known}
+use Rattle.sym_spec.specs.SymCalls.{number_of_value, writes, writes_from, writes_known}
 use Rattle.sym_spec.specs.SymTurns.{acts, address_of, branches, executes, jumps_to}
 use Rattle.run_laws.specs.Turns.{heap_of}
 use Rattle.run_laws.proofs.Stores.{lives, KeepsCells, filled_lives, stored_lives}
@@ -81,9 +81,9 @@ writes_keep file input None s = record { heap = refl; bits = refl }
 with_keeps : KeepsCells → (file input : List ℕ) (call : Call) (o : Option ℕ) (s : SymMachine)
     → Keeps s (calls_with file input call o s).next
 with_keeps as_many file input Read (Some fd) s = one_turn (fd == 0) s _ _
-    (reads_keep as_many file input (word_in (value_of s 12)) s) (record { heap = refl; bits = refl })
+    (reads_keep as_many file input (number_of_value (value_of s 12)) s) (record { heap = refl; bits = refl })
 with_keeps as_many file input Write (Some fd) s = one_turn ((fd == 1) || (fd == 2)) s _ _
-    (writes_keep file input (word_in (value_of s 12)) s) (record { heap = refl; bits = refl })
+    (writes_keep file input (number_of_value (value_of s 12)) s) (record { heap = refl; bits = refl })
 with_keeps as_many file input Exits (Some status) s = record { heap = refl; bits = refl }
 with_keeps as_many file input Brk first s = record { heap = refl; bits = refl }
 with_keeps as_many file input Unknown first s = record { heap = refl; bits = refl }
@@ -93,12 +93,12 @@ with_keeps as_many file input Exits None s = record { heap = refl; bits = refl }
 
 by_keeps : KeepsCells → (file input : List ℕ) (o : Option ℕ) (s : SymMachine) → Keeps s (calls_by file input o s).next
 by_keeps as_many file input (Some number) s =
-    with_keeps as_many file input (call_of number) (word_in (value_of s 10)) s
+    with_keeps as_many file input (call_of number) (number_of_value (value_of s 10)) s
 by_keeps as_many file input None s = record { heap = refl; bits = refl }
 
 pub calls_keep : KeepsCells → (file input : List ℕ) (s : SymMachine) → Keeps s (calls file input s).next
 unfolding calls
-calls_keep as_many file input s = by_keeps as_many file input (word_in (value_of s 17)) s
+calls_keep as_many file input s = by_keeps as_many file input (number_of_value (value_of s 17)) s
 
 -- instructions
 links_heap : (plan : Plan) (r : ℕ) (s : SymMachine) → heap_of (links plan r s) ≡ heap_of s

@@ -25,8 +25,8 @@ use Rattle.sym_cells.specs.Buffers.{is_within, taken, filled}
 use Rattle.sym_cells.specs.Region.{FillsAlike}
 use Rattle.sym_spec.specs.Plain.{is_plain, is_plain_store}
 use Rattle.sym_spec.specs.SymMachine.{SymMachine, value_of, ends, faults}
-use Rattle.sym_spec.specs.SymCalls.{SymTurn, quiet, answers, word_in, pointer_in, buffer_in, reads_into, reads_to}
-use Rattle.sym_spec.specs.SymCalls.{writes_known, writes_from, reads, writes, calls_with, calls_by, calls}
+use Rattle.sym_spec.specs.SymCalls.{SymTurn, quiet, answers, number_of_value, pointer_in, buffer_in, reads_into}
+use Rattle.sym_spec.specs.SymCalls.{reads_to, writes_known, writes_from, reads, writes, calls_with, calls_by, calls}
 use Rattle.match_spec.specs.Stands.{Places, places_of, back_of, Holds}
 use Rattle.match_spec.specs.Matches.{InStep}
 use Rattle.match_spec.specs.Keeps.{IsNoFault}
@@ -60,7 +60,7 @@ answers_alike file plan new s m v small h =
     (holds_num (places_of file plan s.at) v small)
 
 -- the word that a register holds is the flat machine's
-decided : (places : Places) (v : Value) (w n : ℕ) → Holds places v w → word_in v ≡ Some n → w ≡ n
+decided : (places : Places) (v : Value) (w n : ℕ) → Holds places v w → number_of_value v ≡ Some n → w ≡ n
 decided places (Num x) w n h e = let is : x ≡ n = cc in sym h.is.stands ∙ is
 decided places (Ptr b o) w n h e = absurd (cc)
 decided places (Ret a) w n h e = absurd (cc)
@@ -233,11 +233,11 @@ write_alike file plan new input s m n g h holds small en safe = at (nat_eq n 0) 
 
 reads_alike : (file : List ℕ) (plan : Plan) (new input : List ℕ) (s : SymMachine) (m : Machine) → Ground file plan new
     → All (λ b. b < 256) input → InStep file plan new s m
-    → IsNoFault (reads file input (word_in (value_of s 12)) s).next.ending
-    → TurnsAlike file plan new (reads file input (word_in (value_of s 12)) s) (flat.reads input m)
-reads_alike file plan new input s m g bytes h safe = at (word_in (value_of s 12)) refl safe
+    → IsNoFault (reads file input (number_of_value (value_of s 12)) s).next.ending
+    → TurnsAlike file plan new (reads file input (number_of_value (value_of s 12)) s) (flat.reads input m)
+reads_alike file plan new input s m g bytes h safe = at (number_of_value (value_of s 12)) refl safe
   where
-    at : (o : Option ℕ) → word_in (value_of s 12) ≡ o → IsNoFault (reads file input o s).next.ending
+    at : (o : Option ℕ) → number_of_value (value_of s 12) ≡ o → IsNoFault (reads file input o s).next.ending
         → TurnsAlike file plan new (reads file input o s) (flat.reads input m)
     at (Some n) e safe =
         let count : Holds (places_of file plan s.at) (value_of s 12) (register m 12) =
@@ -249,12 +249,12 @@ reads_alike file plan new input s m g bytes h safe = at (word_in (value_of s 12)
 
 writes_alike : (file : List ℕ) (plan : Plan) (new input : List ℕ) (s : SymMachine) (m : Machine)
     → Ground file plan new → InStep file plan new s m
-    → IsNoFault (writes file input (word_in (value_of s 12)) s).next.ending
-    → TurnsAlike file plan new (writes file input (word_in (value_of s 12)) s)
+    → IsNoFault (writes file input (number_of_value (value_of s 12)) s).next.ending
+    → TurnsAlike file plan new (writes file input (number_of_value (value_of s 12)) s)
     (flat.writes input (bytes_from m.memory (register m 11) (register m 12)) m)
-writes_alike file plan new input s m g h safe = at (word_in (value_of s 12)) refl safe
+writes_alike file plan new input s m g h safe = at (number_of_value (value_of s 12)) refl safe
   where
-    at : (o : Option ℕ) → word_in (value_of s 12) ≡ o → IsNoFault (writes file input o s).next.ending
+    at : (o : Option ℕ) → number_of_value (value_of s 12) ≡ o → IsNoFault (writes file input o s).next.ending
         → TurnsAlike file plan new (writes file input o s)
         (flat.writes input (bytes_from m.memory (register m 11) (register m 12)) m)
     at (Some n) e safe =
@@ -268,11 +268,12 @@ writes_alike file plan new input s m g h safe = at (word_in (value_of s 12)) ref
 -- a call by its name, with its first argument
 with_alike : (file : List ℕ) (plan : Plan) (new input : List ℕ) (s : SymMachine) (m : Machine) (call : Call)
     → Ground file plan new → All (λ b. b < 256) input → InStep file plan new s m
-    → IsNoFault (calls_with file input call (word_in (value_of s 10)) s).next.ending
-    → TurnsAlike file plan new (calls_with file input call (word_in (value_of s 10)) s) (flat.calls_by call input m)
-with_alike file plan new input s m call g bytes h safe = at call (word_in (value_of s 10)) refl safe
+    → IsNoFault (calls_with file input call (number_of_value (value_of s 10)) s).next.ending
+    → TurnsAlike file plan new (calls_with file input call (number_of_value (value_of s 10)) s)
+    (flat.calls_by call input m)
+with_alike file plan new input s m call g bytes h safe = at call (number_of_value (value_of s 10)) refl safe
   where
-    first : (n : ℕ) → word_in (value_of s 10) ≡ Some n → register m 10 ≡ n
+    first : (n : ℕ) → number_of_value (value_of s 10) ≡ Some n → register m 10 ≡ n
     first n e = decided (places_of file plan s.at) (value_of s 10) (register m 10) n
         (h.registers.holds 10 (omega arith) (omega arith)) e
 
@@ -281,24 +282,24 @@ with_alike file plan new input s m call g bytes h safe = at call (word_in (value
     bad = quiet_alike file plan new input (answers bad_descriptor s) (flat.answers bad_descriptor m)
         (answers_alike file plan new s m bad_descriptor (omega arith) h)
 
-    reading : (t : Bool) → IsNoFault (cond t (reads file input (word_in (value_of s 12)) s)
+    reading : (t : Bool) → IsNoFault (cond t (reads file input (number_of_value (value_of s 12)) s)
         (quiet input (answers bad_descriptor s))).next.ending
-        → TurnsAlike file plan new (cond t (reads file input (word_in (value_of s 12)) s)
+        → TurnsAlike file plan new (cond t (reads file input (number_of_value (value_of s 12)) s)
         (quiet input (answers bad_descriptor s)))
         (cond t (flat.reads input m) (flat.quiet input (flat.answers bad_descriptor m)))
     reading true safe = reads_alike file plan new input s m g bytes h safe
     reading false safe = bad
 
-    writing : (t : Bool) → IsNoFault (cond t (writes file input (word_in (value_of s 12)) s)
+    writing : (t : Bool) → IsNoFault (cond t (writes file input (number_of_value (value_of s 12)) s)
         (quiet input (answers bad_descriptor s))).next.ending
-        → TurnsAlike file plan new (cond t (writes file input (word_in (value_of s 12)) s)
+        → TurnsAlike file plan new (cond t (writes file input (number_of_value (value_of s 12)) s)
         (quiet input (answers bad_descriptor s)))
         (cond t (flat.writes input (bytes_from m.memory (register m 11) (register m 12)) m)
         (flat.quiet input (flat.answers bad_descriptor m)))
     writing true safe = writes_alike file plan new input s m g h safe
     writing false safe = bad
 
-    at : (call : Call) (o : Option ℕ) → word_in (value_of s 10) ≡ o
+    at : (call : Call) (o : Option ℕ) → number_of_value (value_of s 10) ≡ o
         → IsNoFault (calls_with file input call o s).next.ending
         → TurnsAlike file plan new (calls_with file input call o s) (flat.calls_by call input m)
     at Read (Some fd) e safe = rw (first fd e) (reading (nat_eq fd 0) safe)
@@ -320,9 +321,9 @@ pub calls_alike : (file : List ℕ) (plan : Plan) (new input : List ℕ) (s : Sy
     → Ground file plan new → All (λ b. b < 256) input → InStep file plan new s m
     → IsNoFault (calls file input s).next.ending → TurnsAlike file plan new (calls file input s) (flat.calls input m)
 unfolding calls flat.calls
-calls_alike file plan new input s m g bytes h safe = at (word_in (value_of s 17)) refl safe
+calls_alike file plan new input s m g bytes h safe = at (number_of_value (value_of s 17)) refl safe
   where
-    at : (o : Option ℕ) → word_in (value_of s 17) ≡ o → IsNoFault (calls_by file input o s).next.ending
+    at : (o : Option ℕ) → number_of_value (value_of s 17) ≡ o → IsNoFault (calls_by file input o s).next.ending
         → TurnsAlike file plan new (calls_by file input o s) (flat.calls_by (call_of (register m 17)) input m)
     at (Some number) e safe =
         let same : register m 17 ≡ number = decided (places_of file plan s.at) (value_of s 17) (register m 17) number

@@ -31,7 +31,7 @@ use Rattle.simulation.proofs.Following.{Follows, HeapFollows}
 use Rattle.simulation.proofs.Entries.{entry_there}
 use Rattle.simulation.proofs.HeapActs.{heap_acts}
 use Rattle.simulation.proofs.StubPlaces.{stub_back, unchosen_back, cleared_small}
-use Rattle.site_stubs.specs.StubRuns.{Reaches, state_of}
+use Rattle.site_stubs.specs.StubRuns.{GoesTo, state_of}
 
 -- the way back from a done action
 pub action_follows : (file : List ℕ) (plan : Plan) (new : List ℕ) (s n : SymMachine) (m : Machine)
@@ -80,7 +80,7 @@ action_follows file plan new s n m input output g h done safe =
     })
     by_index back stands is (Some k) e =
         let bits : ℕ = clear_bit (option_and_then (slice_get plan.sites) (back_index file plan.sites back)) n.bits in
-        let ends : Reaches 6 done.machine input output back bits =
+        let ends : GoesTo 6 done.machine input output back bits =
         stub_back file plan new (places_of file plan n.at) n.memory done.machine n.bits back k input output g
         done.memory done.ending (done.pc ∙ sym stands) done.registers.long done.registers.bits_there is e in
         record {

@@ -16,7 +16,7 @@ use Rattle.sym_cells.specs.Buffers.{is_within, taken, filled}
 use Rattle.sym_spec.specs.Plain.{is_plain, is_plain_store}
 use Rattle.sym_spec.specs.SymMachine.{SymMachine, value_of}
 use Rattle.sym_spec.specs.SymCalls.{SymTurn, buffer_in, calls, calls_by, calls_with, reads, reads_into, reads_to}
-use Rattle.sym_spec.specs.SymCalls.{word_in, writes, writes_from, writes_known}
+use Rattle.sym_spec.specs.SymCalls.{number_of_value, writes, writes_from, writes_known}
 use Rattle.sym_spec.specs.SymTurns.{Here, Nothing, Heap, Pair, Code, executes, here, runs_here, turn, turn_of}
 
 abbrev AreBytes : List ℕ → Type 0
@@ -60,9 +60,10 @@ writes_left file input None m h = h
 
 with_left : (file input : List ℕ) (call : Call) (o : Option ℕ) (m : SymMachine) → AreBytes input
     → AreBytes (calls_with file input call o m).left
-with_left file input Read (Some fd) m h = one_of (fd == 0) _ _ (reads_left file input (word_in (value_of m 12)) m h) h
+with_left file input Read (Some fd) m h =
+    one_of (fd == 0) _ _ (reads_left file input (number_of_value (value_of m 12)) m h) h
 with_left file input Write (Some fd) m h =
-    one_of ((fd == 1) || (fd == 2)) _ _ (writes_left file input (word_in (value_of m 12)) m h) h
+    one_of ((fd == 1) || (fd == 2)) _ _ (writes_left file input (number_of_value (value_of m 12)) m h) h
 with_left file input Exits (Some status) m h = h
 with_left file input Brk first m h = h
 with_left file input Unknown first m h = h
@@ -70,13 +71,13 @@ with_left file input call None m h = h
 
 call_left : (file input : List ℕ) (o : Option ℕ) (m : SymMachine) → AreBytes input
     → AreBytes (calls_by file input o m).left
-call_left file input (Some number) m h = with_left file input (call_of number) (word_in (value_of m 10)) m h
+call_left file input (Some number) m h = with_left file input (call_of number) (number_of_value (value_of m 10)) m h
 call_left file input None m h = h
 
 executed_left : (file : List ℕ) (plan : Plan) (input : List ℕ) (o : Option Instr) (m : SymMachine) → AreBytes input
     → AreBytes (executes file plan input o m).left
 unfolding calls
-executed_left file plan input (Some Ecall) m h = call_left file input (word_in (value_of m 17)) m h
+executed_left file plan input (Some Ecall) m h = call_left file input (number_of_value (value_of m 17)) m h
 executed_left file plan input None m h = h
 executed_left file plan input (Some i) m h = h
 

@@ -28,7 +28,7 @@ use Rattle.sym_cells.proofs.Lists.{length-store}
 use Rattle.sym_spec.specs.Plain.{is_plain, is_plain_store}
 use Rattle.sym_spec.specs.SymMachine.{SymMachine, lives_of, value_of, jumps, links, loads, stores}
 use Rattle.sym_spec.specs.SymCalls.{SymTurn, buffer_in, calls, calls_by, calls_with, reads, reads_into, reads_to}
-use Rattle.sym_spec.specs.SymCalls.{word_in, writes, writes_from, writes_known}
+use Rattle.sym_spec.specs.SymCalls.{number_of_value, writes, writes_from, writes_known}
 use Rattle.sym_spec.specs.SymTurns.{acts, address_of, branches, executes, jumps_to}
 use Rattle.match_spec.specs.Steps.{living}
 
@@ -147,9 +147,9 @@ writes_keep file input None s = record { at = refl; lives = refl }
 with_keeps : (file input : List ℕ) (call : Call) (o : Option ℕ) (s : SymMachine)
     → KeepsBlocks s (calls_with file input call o s).next
 with_keeps file input Read (Some fd) s = one_turn (fd == 0) s _ _
-    (reads_keep file input (word_in (value_of s 12)) s) (record { at = refl; lives = refl })
+    (reads_keep file input (number_of_value (value_of s 12)) s) (record { at = refl; lives = refl })
 with_keeps file input Write (Some fd) s = one_turn ((fd == 1) || (fd == 2)) s _ _
-    (writes_keep file input (word_in (value_of s 12)) s) (record { at = refl; lives = refl })
+    (writes_keep file input (number_of_value (value_of s 12)) s) (record { at = refl; lives = refl })
 with_keeps file input Exits (Some status) s = record { at = refl; lives = refl }
 with_keeps file input Brk first s = record { at = refl; lives = refl }
 with_keeps file input Unknown first s = record { at = refl; lives = refl }
@@ -158,7 +158,7 @@ with_keeps file input Write None s = record { at = refl; lives = refl }
 with_keeps file input Exits None s = record { at = refl; lives = refl }
 
 call_keeps : (file input : List ℕ) (o : Option ℕ) (s : SymMachine) → KeepsBlocks s (calls_by file input o s).next
-call_keeps file input (Some number) s = with_keeps file input (call_of number) (word_in (value_of s 10)) s
+call_keeps file input (Some number) s = with_keeps file input (call_of number) (number_of_value (value_of s 10)) s
 call_keeps file input None s = record { at = refl; lives = refl }
 
 -- instructions
@@ -218,7 +218,7 @@ acts_keep file plan Ebreak s = record { at = refl; lives = refl }
 pub executes_keep : (file : List ℕ) (plan : Plan) (input : List ℕ) (o : Option Instr) (s : SymMachine)
     → KeepsBlocks s (executes file plan input o s).next
 unfolding calls
-executes_keep file plan input (Some Ecall) s = call_keeps file input (word_in (value_of s 17)) s
+executes_keep file plan input (Some Ecall) s = call_keeps file input (number_of_value (value_of s 17)) s
 executes_keep file plan input None s = record { at = refl; lives = refl }
 executes_keep file plan input (Some i) s = acts_keep file plan i s
 

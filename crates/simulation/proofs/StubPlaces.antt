@@ -26,7 +26,7 @@ use Rattle.simulation.specs.Ground.{Ground}
 use Rattle.simulation.proofs.Backs.{BackLine, back_line}
 use Rattle.simulation.proofs.Registers.{zero_unread}
 use Rattle.simulation.proofs.Following.{fetch_text}
-use Rattle.site_stubs.specs.StubRuns.{GoesBack, Reaches, RunsAt, StandAt}
+use Rattle.site_stubs.specs.StubRuns.{GoesBack, GoesTo, RunsAt, StandAt}
 
 pub stub_room : (file : List ℕ) (plan : Plan) (new : List ℕ) (k : ℕ) → Ground file plan new → k < length plan.sites
     → (text_at file ≤ stub_at (text_at file) k) × (stub_at (text_at file) k + 44 ≤ text_at file + text_room) ×
@@ -95,7 +95,7 @@ pub stub_back : (file : List ℕ) (plan : Plan) (new : List ℕ) (places : Place
     (bits back k : ℕ) (input output : List ℕ) → Ground file plan new → InMemory file new places held from.memory
     → from.ending ≡ Running → from.pc ≡ back_of file plan back → length from.registers ≡ 32
     → register from 4 ≡ bits → IsReturn back → back_index file plan.sites back ≡ Some k
-    → Reaches 6 from input output back
+    → GoesTo 6 from input output back
     (clear_bit (option_and_then (slice_get plan.sites) (back_index file plan.sites back)) bits)
 stub_back file plan new places held from bits back k input output g h run pc long four is e =
     let line : BackLine file plan.sites back k = back_line file plan.sites back k e in
@@ -114,15 +114,15 @@ stub_back file plan new places held from bits back k input output g h run pc lon
     (line_bit file plan new k line.line g line.there)
     (rw to is.0) (rw to is.1) from input output here in
     rw (e, line.there)
-    (subst (λ b. Reaches 6 from input output b (bit_and bits (2 ^ 32 - 1 - 2 ^ line.line.bit))) to
-    (subst (λ w. Reaches 6 from input output line.site.back
+    (subst (λ b. GoesTo 6 from input output b (bit_and bits (2 ^ 32 - 1 - 2 ^ line.line.bit))) to
+    (subst (λ w. GoesTo 6 from input output line.site.back
     (bit_and w (2 ^ 32 - 1 - 2 ^ line.line.bit))) four goes.reaches))
 
 -- a jump back to the return address of a chosen site
 pub chosen_back : (file : List ℕ) (plan : Plan) (new : List ℕ) (s : SymMachine) (m : Machine) (back k : ℕ)
     (input output : List ℕ) → Ground file plan new
     → InStep file plan new s m → s.ending ≡ Running → IsReturn back → back_index file plan.sites back ≡ Some k
-    → Reaches 6 (record m { registers = slice_set m.registers 0 (behind m.pc); pc = back_of file plan back }) input
+    → GoesTo 6 (record m { registers = slice_set m.registers 0 (behind m.pc); pc = back_of file plan back }) input
     output back
     (clear_bit (option_and_then (slice_get plan.sites) (back_index file plan.sites back)) s.bits)
 chosen_back file plan new s m back k input output g h run is e =

@@ -57,7 +57,7 @@ use Rattle.simulation.proofs.Registers.{changed_registers, zero_unread}
 use Rattle.simulation.proofs.Jumping.{behind_code, jumps_alike, flat_jump, flat_back, back_alike, target_aligned}
 use Rattle.simulation.proofs.Calling.{TurnsAlike, quiet_alike, ends_alike, calls_alike}
 use Rattle.simulation.proofs.Acting.{IsPlainInstr, acts_alike, neither, unequal}
-use Rattle.site_stubs.specs.StubRuns.{CallsFrom, Reaches, RunsAt, StandAt, state_of}
+use Rattle.site_stubs.specs.StubRuns.{CallsFrom, GoesTo, RunsAt, StandAt, state_of}
 use Rattle.std.proofs.Math.Pow.{pow-lt}
 use Rattle.simulation.proofs.FlatTurns.{step_quiet, turn_is}
 use Rattle.flat_spec.proofs.Runs.{more_steps, one_step}
@@ -93,7 +93,7 @@ back_follows file plan new s m back input output g h run is turn = by_index (bac
         let one : steps 1 (state_of m input output) ≡ state_of first input output = one_step (state_of m input output)
         ∙ step_quiet input output m first turn in
         let bits : ℕ = clear_bit (option_and_then (slice_get plan.sites) (back_index file plan.sites back)) s.bits in
-        let ends : Reaches 6 first input output back bits =
+        let ends : GoesTo 6 first input output back bits =
         chosen_back file plan new s m back k input output g h run is e in
         record {
           turns = 7;

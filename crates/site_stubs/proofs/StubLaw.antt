@@ -13,7 +13,7 @@ use Rattle.new_file_spec.specs.Stubs.{stub_words}
 use Rattle.machine_spec.specs.Memory.{Range}
 use Rattle.flat_spec.specs.Machine.{Machine, register}
 use Rattle.flat_spec.specs.Runs.{State, steps}
-use Rattle.site_stubs.specs.StubRuns.{Calls, CallsFrom, ClearsBit, GoesBack, Reaches, Returns, RunsAt, SetsBit, StandAt}
+use Rattle.site_stubs.specs.StubRuns.{Calls, CallsFrom, ClearsBit, GoesBack, GoesTo, Returns, RunsAt, SetsBit, StandAt}
 use Rattle.site_stubs.specs.StubRuns.{state_of}
 use Rattle.site_stubs.proofs.Way.{change_first, change_zero, Changed, split_lower, split_upper, goes_there}
 use Rattle.site_stubs.proofs.Turns.{EndsAt, IsFormed-add, IsFormed-ones, add_turn, and_turn, auipc_turn, bit_small}
@@ -47,7 +47,7 @@ reads_alike words now one four k h a b = decide (nat_eq k 0) refl
 -- the machine at the end of a way
 ends : (m : Machine) (one bits pc count : ℕ) (input output : List ℕ) → one < 2 ^ 32
     → EndsAt m.memory m.registers one bits pc input output count (state_of m input output)
-    → Reaches count m input output pc bits
+    → GoesTo count m input output pc bits
 ends m one bits pc count input output small h = record {
   next = h.machine;
   run = h.is;

@@ -27,7 +27,7 @@ state_of m input output = record { machine = m; input = input; output = output }
 
 -- so many turns lead from a machine to one that runs on at a place, with this word in x4 and a word in
 -- ra: nothing but ra, x4 and the pc changes
-pub record Reaches (turns : ℕ) (m : Machine) (input output : List ℕ) (place word : ℕ) : Type 0 where
+pub record GoesTo (turns : ℕ) (m : Machine) (input output : List ℕ) (place word : ℕ) : Type 0 where
   pub next : Machine
   pub run : steps turns (state_of m input output) ≡ state_of next input output
   pub ending : next.ending ≡ Running
@@ -48,13 +48,13 @@ ClearsBit bit before after = (b : ℕ) → b < 32 → bit_at after b ≡ (if b =
 -- five turns from the first word set the bit and go to the target, with the place of the sixth word
 -- in ra
 pub record CallsFrom (at bit target : ℕ) (m : Machine) (input output : List ℕ) : Type 0 where
-  pub reaches : Reaches 5 m input output target (bit_or (register m 4) (2 ^ bit))
+  pub reaches : GoesTo 5 m input output target (bit_or (register m 4) (2 ^ bit))
   pub link : register reaches.next 1 ≡ plus at 20
   pub one_bit : SetsBit bit (register m 4) (register reaches.next 4)
 
 -- six turns from the sixth word clear the bit and go to the return address
 pub record GoesBack (bit back : ℕ) (m : Machine) (input output : List ℕ) : Type 0 where
-  pub reaches : Reaches 6 m input output back (bit_and (register m 4) (2 ^ 32 - 1 - 2 ^ bit))
+  pub reaches : GoesTo 6 m input output back (bit_and (register m 4) (2 ^ 32 - 1 - 2 ^ bit))
   pub one_bit : ClearsBit bit (register m 4) (register reaches.next 4)
 
 -- words that call from wherever they stand at this place

@@ -31,8 +31,8 @@ use Rattle.sym_cells.specs.Buffers.{is_within, taken, filled}
 use Rattle.sym_spec.specs.Plain.{is_plain, is_plain_store}
 use Rattle.sym_spec.specs.SymMachine.{SymMachine, lives_of, value_of, faults, loads, stores, goes_to, links, jumps}
 use Rattle.sym_spec.specs.SymMachine.{goes_back}
-use Rattle.sym_spec.specs.SymCalls.{SymTurn, quiet, answers, word_in, buffer_in, reads_into, reads_to, writes_known}
-use Rattle.sym_spec.specs.SymCalls.{writes_from, reads, writes, calls_with, calls_by, calls}
+use Rattle.sym_spec.specs.SymCalls.{SymTurn, quiet, answers, number_of_value, buffer_in, reads_into, reads_to}
+use Rattle.sym_spec.specs.SymCalls.{writes_known, writes_from, reads, writes, calls_with, calls_by, calls}
 use Rattle.sym_spec.specs.SymTurns.{Here, Nothing, Heap, Pair, Code, here, address_of, jumps_to, branches, acts}
 use Rattle.sym_spec.specs.SymTurns.{executes, runs_here, turn_of, turn as machine_turn}
 use Rattle.sym_spec.specs.HeapActions.{Outcome, Action, base, granule_in, grants_placed, grants, moves_placed, moves}
@@ -139,12 +139,13 @@ writes_at file input None m = refl
 calls_with_at : (file input : List ℕ) (call : Call) (first : Option ℕ) (m : SymMachine)
     → (calls_with file input call first m).next.at ≡ m.at
 calls_with_at file input Read (Some fd) m =
-    either_turn (fd == 0) (reads file input (word_in (value_of m 12)) m) (quiet input (answers bad_descriptor m)) m
-    (reads_at file input (word_in (value_of m 12)) m) refl
-calls_with_at file input Write (Some fd) m =
-    either_turn ((fd == 1) || (fd == 2)) (writes file input (word_in (value_of m 12)) m)
+    either_turn (fd == 0) (reads file input (number_of_value (value_of m 12)) m)
     (quiet input (answers bad_descriptor m)) m
-    (writes_at file input (word_in (value_of m 12)) m) refl
+    (reads_at file input (number_of_value (value_of m 12)) m) refl
+calls_with_at file input Write (Some fd) m =
+    either_turn ((fd == 1) || (fd == 2)) (writes file input (number_of_value (value_of m 12)) m)
+    (quiet input (answers bad_descriptor m)) m
+    (writes_at file input (number_of_value (value_of m 12)) m) refl
 calls_with_at file input Exits (Some status) m = refl
 calls_with_at file input Brk (Some first) m = refl
 calls_with_at file input Unknown (Some first) m = refl
@@ -155,13 +156,13 @@ calls_with_at file input Brk None m = refl
 calls_with_at file input Unknown None m = refl
 
 calls_by_at : (file input : List ℕ) (number : Option ℕ) (m : SymMachine) → (calls_by file input number m).next.at ≡ m.at
-calls_by_at file input (Some number) m = calls_with_at file input (call_of number) (word_in (value_of m 10)) m
+calls_by_at file input (Some number) m = calls_with_at file input (call_of number) (number_of_value (value_of m 10)) m
 calls_by_at file input None m = refl
 
 executes_at : (file : List ℕ) (plan : Plan) (input : List ℕ) (i : Option Instr) (m : SymMachine)
     → (executes file plan input i m).next.at ≡ m.at
 unfolding calls
-executes_at file plan input (Some Ecall) m = calls_by_at file input (word_in (value_of m 17)) m
+executes_at file plan input (Some Ecall) m = calls_by_at file input (number_of_value (value_of m 17)) m
 executes_at file plan input (Some (Lui rd imm)) m = acts_at file plan (Lui rd imm) m
 executes_at file plan input (Some (Auipc rd imm)) m = acts_at file plan (Auipc rd imm) m
 executes_at file plan input (Some (Jal rd imm)) m = acts_at file plan (Jal rd imm) m

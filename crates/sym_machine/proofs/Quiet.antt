@@ -13,7 +13,7 @@ use Rattle.sym_value.specs.Places.{Lives}
 use Rattle.sym_value.specs.Decisions.{decide}
 use Rattle.sym_value.specs.Operations.{apply}
 use Rattle.sym_spec.specs.declared.StepNote.{StepNote}
-use Rattle.sym_spec.specs.SymCalls.{word_in}
+use Rattle.sym_spec.specs.SymCalls.{number_of_value}
 use Rattle.sym_spec.specs.SymNotes.{empty_note, access_to}
 use Rattle.sym_machine.specs.Turning.{is_number}
 use Rattle.sym_machine.specs.Steps.{noted}
@@ -24,7 +24,7 @@ unfolding apply
 applied live op v w = refl
 
 -- a value that is a number
-pub number_there : (v : Value) (n : ℕ) → word_in v ≡ Some n → v ≡ Num n
+pub number_there : (v : Value) (n : ℕ) → number_of_value v ≡ Some n → v ≡ Num n
 number_there (Num w) n e = cc
 number_there (Ptr b o) n e = absurd (cc)
 number_there (Ret r) n e = absurd (cc)
@@ -33,8 +33,8 @@ number_there (Part s i) n e = absurd (cc)
 number_there Unset n e = absurd (cc)
 
 -- an operation of two values that are numbers
-pub applied_there : (live : Lives) (op : Op) (a b : Value) (v w : ℕ) → word_in a ≡ Some v → word_in b ≡ Some w
-    → Num (computed op v w) ≡ apply live op a b
+pub applied_there : (live : Lives) (op : Op) (a b : Value) (v w : ℕ) → number_of_value a ≡ Some v
+    → number_of_value b ≡ Some w → Num (computed op v w) ≡ apply live op a b
 applied_there live op a b v w e f = rw (number_there a v e, number_there b w f) (sym (applied live op v w))
 
 -- a condition of two values that are numbers
@@ -42,8 +42,8 @@ held : (live : Lives) (cond : Cond) (v w : ℕ) → decide live cond (Num v) (Nu
 unfolding decide
 held live cond v w = refl
 
-pub decided_there : (live : Lives) (cond : Cond) (a b : Value) (v w : ℕ) → word_in a ≡ Some v → word_in b ≡ Some w
-    → Some (is_held cond v w) ≡ decide live cond a b
+pub decided_there : (live : Lives) (cond : Cond) (a b : Value) (v w : ℕ) → number_of_value a ≡ Some v
+    → number_of_value b ≡ Some w → Some (is_held cond v w) ≡ decide live cond a b
 decided_there live cond a b v w e f = rw (number_there a v e, number_there b w f) (sym (held live cond v w))
 
 -- the address behind a base that is a number
@@ -51,12 +51,12 @@ sum_is : (v w : ℕ) → computed Add v w ≡ (v + w) % 2 ^ 32
 unfolding computed
 sum_is v w = refl
 
-pub address_there : (live : Lives) (a : Value) (v imm : ℕ) → word_in a ≡ Some v
+pub address_there : (live : Lives) (a : Value) (v imm : ℕ) → number_of_value a ≡ Some v
     → apply live Add a (Num imm) ≡ Num ((v + imm) % 2 ^ 32)
 address_there live a v imm e = rw (number_there a v e) (applied live Add v imm ∙ ap Num (sum_is v imm))
 
 -- a word that is loaded as a number
-pub word_there : (o : Option Value) (n : ℕ) → option_and_then word_in o ≡ Some n → o ≡ Some (Num n)
+pub word_there : (o : Option Value) (n : ℕ) → option_and_then number_of_value o ≡ Some n → o ≡ Some (Num n)
 word_there None n e = absurd (cc)
 word_there (Some v) n e = ap Some (number_there v n e)
 

@@ -18,7 +18,7 @@ use Rattle.sym_cells.specs.Buffers.{is_within, taken, filled}
 use Rattle.sym_spec.specs.Plain.{is_plain, is_plain_store}
 use Rattle.sym_spec.specs.SymMachine.{value_of}
 use Rattle.sym_spec.specs.HeapActions.{function_at}
-use Rattle.sym_spec.specs.SymCalls.{SymTurn, word_in, pointer_in, buffer_in, reads_into, calls}
+use Rattle.sym_spec.specs.SymCalls.{SymTurn, number_of_value, pointer_in, buffer_in, reads_into, calls}
 use Rattle.sym_spec.specs.SymTurns.{Here, Nothing, Heap, Pair, Code, here, here_with, is_second, turn as machine_turn}
 use Rattle.sym_spec.specs.SymNotes.{here_note, is_fault, ending_note, note}
 use Rattle.sym_machine.specs.Programs.{Program, turn, turned}
@@ -33,12 +33,12 @@ pub record Reading (p : Program) (n : ℕ) : Type 0 where
   pub code : here p.file p.machine.pc ≡ Code word
   pub instr : decoded word ≡ Some Ecall
   pub number : ℕ
-  pub number_is : word_in (value_of p.machine 17) ≡ Some number
+  pub number_is : number_of_value (value_of p.machine 17) ≡ Some number
   pub call : call_of number ≡ Read
   pub fd : ℕ
-  pub fd_is : word_in (value_of p.machine 10) ≡ Some fd
+  pub fd_is : number_of_value (value_of p.machine 10) ≡ Some fd
   pub zero_is : (fd == 0) ≡ true
-  pub len : word_in (value_of p.machine 12) ≡ Some n
+  pub len : number_of_value (value_of p.machine 12) ≡ Some n
   pub some : (n == 0) ≡ false
   pub start : Value
   pub starts : buffer_in n (value_of p.machine 11) ≡ Some start
@@ -55,13 +55,13 @@ record Calling (p : Program) : Type 0 where
 record Numbered (p : Program) : Type 0 where
   calling : Calling p
   number : ℕ
-  number_is : word_in (value_of p.machine 17) ≡ Some number
+  number_is : number_of_value (value_of p.machine 17) ≡ Some number
 
 record FromInput (p : Program) : Type 0 where
   numbered : Numbered p
   call : call_of numbered.number ≡ Read
   fd : ℕ
-  fd_is : word_in (value_of p.machine 10) ≡ Some fd
+  fd_is : number_of_value (value_of p.machine 10) ≡ Some fd
   zero_is : (fd == 0) ≡ true
 
 some_of : (n k : ℕ) (b : Bool) → (k == 0) ≡ b → asks_input k ≡ Input n → (k ≡ n) × ((k == 0) ≡ false)
@@ -72,7 +72,7 @@ pointed : (n : ℕ) (v w : Value) → (n == 0) ≡ false → buffer_in n v ≡ S
 pointed n v w e h = rw e at h
 
 read_within : (p : Program) (n k : ℕ) (f : FromInput p) (start : Value) (b : Bool)
-    → word_in (value_of p.machine 12) ≡ Some k → buffer_in k (value_of p.machine 11) ≡ Some start
+    → number_of_value (value_of p.machine 12) ≡ Some k → buffer_in k (value_of p.machine 11) ≡ Some start
     → is_within (is_plain_store p.file) p.machine.memory k start ≡ b
     → (if b then asks_input k else NoAsk) ≡ Input n → Reading p n
 read_within p n k f start false len s w h = absurd (cc)
@@ -98,27 +98,28 @@ read_within p n k f start true len s w h =
     }
 
 read_start : (p : Program) (n k : ℕ) (f : FromInput p) (o : Option Value)
-    → word_in (value_of p.machine 12) ≡ Some k → buffer_in k (value_of p.machine 11) ≡ o
+    → number_of_value (value_of p.machine 12) ≡ Some k → buffer_in k (value_of p.machine 11) ≡ o
     → asks_into p.file p.machine k o ≡ Input n → Reading p n
 read_start p n k f None len s h = absurd (cc)
 read_start p n k f (Some start) len s h =
     read_within p n k f start (is_within (is_plain_store p.file) p.machine.memory k start) len s refl h
 
-read_len : (p : Program) (n : ℕ) (f : FromInput p) (o : Option ℕ) → word_in (value_of p.machine 12) ≡ o
+read_len : (p : Program) (n : ℕ) (f : FromInput p) (o : Option ℕ) → number_of_value (value_of p.machine 12) ≡ o
     → asks_read p.file p.machine o ≡ Input n → Reading p n
 read_len p n f None len h = absurd (cc)
 read_len p n f (Some k) len h = read_start p n k f (buffer_in k (value_of p.machine 11)) len refl h
 
 read_zero : (p : Program) (n : ℕ) (c : Numbered p) (fd : ℕ) (b : Bool) → call_of c.number ≡ Read
-    → word_in (value_of p.machine 10) ≡ Some fd → (fd == 0) ≡ b
-    → (if b then asks_read p.file p.machine (word_in (value_of p.machine 12)) else NoAsk) ≡ Input n → Reading p n
+    → number_of_value (value_of p.machine 10) ≡ Some fd → (fd == 0) ≡ b
+    → (if b then asks_read p.file p.machine (number_of_value (value_of p.machine 12)) else NoAsk) ≡ Input n
+    → Reading p n
 read_zero p n c fd false call is z h = absurd (cc)
 read_zero p n c fd true call is z h =
     read_len p n (record { numbered = c; call = call; fd = fd; fd_is = is; zero_is = z })
-    (word_in (value_of p.machine 12)) refl h
+    (number_of_value (value_of p.machine 12)) refl h
 
 read_fd : (p : Program) (n : ℕ) (c : Numbered p) (o : Option ℕ) → call_of c.number ≡ Read
-    → word_in (value_of p.machine 10) ≡ o → asks_with p.file p.machine Read o ≡ Input n → Reading p n
+    → number_of_value (value_of p.machine 10) ≡ o → asks_with p.file p.machine Read o ≡ Input n → Reading p n
 read_fd p n c None call is h = absurd (cc)
 read_fd p n c (Some fd) call is h = read_zero p n c fd (fd == 0) call is refl h
 
@@ -145,19 +146,19 @@ no_write_to p n None h = cc
 no_write_to p n (Some fd) h = by_test ((fd == 1) || (fd == 2)) h
   where
     by_test : (b : Bool)
-        → (if b then asks_write p.file p.machine (word_in (value_of p.machine 12)) else NoAsk) ≡ Input n → ⊥
-    by_test true h = no_write p n (word_in (value_of p.machine 12)) h
+        → (if b then asks_write p.file p.machine (number_of_value (value_of p.machine 12)) else NoAsk) ≡ Input n → ⊥
+    by_test true h = no_write p n (number_of_value (value_of p.machine 12)) h
     by_test false h = cc
 
 read_call : (p : Program) (n : ℕ) (c : Numbered p) (call : Call) → call_of c.number ≡ call
-    → asks_with p.file p.machine call (word_in (value_of p.machine 10)) ≡ Input n → Reading p n
-read_call p n c Read is h = read_fd p n c (word_in (value_of p.machine 10)) is refl h
-read_call p n c Write is h = absurd (no_write_to p n (word_in (value_of p.machine 10)) h)
+    → asks_with p.file p.machine call (number_of_value (value_of p.machine 10)) ≡ Input n → Reading p n
+read_call p n c Read is h = read_fd p n c (number_of_value (value_of p.machine 10)) is refl h
+read_call p n c Write is h = absurd (no_write_to p n (number_of_value (value_of p.machine 10)) h)
 read_call p n c Exits is h = absurd (cc)
 read_call p n c Brk is h = absurd (cc)
 read_call p n c Unknown is h = absurd (cc)
 
-read_number : (p : Program) (n : ℕ) (c : Calling p) (o : Option ℕ) → word_in (value_of p.machine 17) ≡ o
+read_number : (p : Program) (n : ℕ) (c : Calling p) (o : Option ℕ) → number_of_value (value_of p.machine 17) ≡ o
     → asks_by p.file p.machine o ≡ Input n → Reading p n
 read_number p n c None is h = absurd (cc)
 read_number p n c (Some number) is h =
@@ -166,7 +167,8 @@ read_number p n c (Some number) is h =
 read_instr : (p : Program) (n w : ℕ) (o : Option Instr) → p.machine.ending ≡ Running
     → here p.file p.machine.pc ≡ Code w → decoded w ≡ o → asks_instr p.file p.machine o ≡ Input n → Reading p n
 read_instr p n w (Some Ecall) r c i h =
-    read_number p n (record { runs = r; word = w; code = c; instr = i }) (word_in (value_of p.machine 17)) refl h
+    read_number p n (record { runs = r; word = w; code = c; instr = i }) (number_of_value (value_of p.machine 17))
+    refl h
 read_instr p n w (Some (Lui rd imm)) r c i h = absurd (cc)
 read_instr p n w (Some (Auipc rd imm)) r c i h = absurd (cc)
 read_instr p n w (Some (Jal rd imm)) r c i h = absurd (cc)

@@ -11,7 +11,7 @@ use Rattle.sym_value.specs.declared.Value.{Value}
 use Rattle.sym_cells.specs.Buffers.{is_within, taken}
 use Rattle.sym_spec.specs.Plain.{is_plain, is_plain_store}
 use Rattle.sym_spec.specs.SymMachine.{SymMachine, value_of}
-use Rattle.sym_spec.specs.SymCalls.{word_in, buffer_in}
+use Rattle.sym_spec.specs.SymCalls.{number_of_value, buffer_in}
 use Rattle.sym_spec.specs.SymTurns.{Here, Code, here}
 use Rattle.sym_machine.specs.Programs.{Program}
 
@@ -43,18 +43,18 @@ asks_write file m None = Nothing
 
 -- by the call and its descriptor: a read is one from 0, a write one to 1 or 2
 abbrev pub asks_with : List ℕ → SymMachine → Call → Option ℕ → Asks
-asks_with file m Read (Some fd) = if fd == 0 then asks_read file m (word_in (value_of m 12)) else Nothing
+asks_with file m Read (Some fd) = if fd == 0 then asks_read file m (number_of_value (value_of m 12)) else Nothing
 asks_with file m Write (Some fd) =
-    if (fd == 1) || (fd == 2) then asks_write file m (word_in (value_of m 12)) else Nothing
+    if (fd == 1) || (fd == 2) then asks_write file m (number_of_value (value_of m 12)) else Nothing
 asks_with file m call first = Nothing
 
 abbrev pub asks_by : List ℕ → SymMachine → Option ℕ → Asks
-asks_by file m (Some number) = asks_with file m (call_of number) (word_in (value_of m 10))
+asks_by file m (Some number) = asks_with file m (call_of number) (number_of_value (value_of m 10))
 asks_by file m None = Nothing
 
 -- no instruction but a system call wants anything
 abbrev pub asks_instr : List ℕ → SymMachine → Option Instr → Asks
-asks_instr file m (Some Ecall) = asks_by file m (word_in (value_of m 17))
+asks_instr file m (Some Ecall) = asks_by file m (number_of_value (value_of m 17))
 asks_instr file m instr = Nothing
 
 abbrev pub asks_here : List ℕ → SymMachine → Here → Asks

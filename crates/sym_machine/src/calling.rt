@@ -7,8 +7,8 @@ ghost use Rattle.machine_run.specs.Machines.{Asks};
 ghost use Rattle.machine_run.specs.Steps.{answer_to};
 ghost use Rattle.sym_value.specs.declared.Value.{Value};
 ghost use Rattle.sym_spec.specs.SymMachine.{value_of, ends, faults};
-ghost use Rattle.sym_spec.specs.SymCalls.{answers, pointer_in, buffer_in, word_in, reads_to, writes_from, reads};
-ghost use Rattle.sym_spec.specs.SymCalls.{writes, calls_with, calls_by, calls};
+ghost use Rattle.sym_spec.specs.SymCalls.{answers, pointer_in, buffer_in, number_of_value, reads_to, writes_from};
+ghost use Rattle.sym_spec.specs.SymCalls.{reads, writes, calls_with, calls_by, calls};
 ghost use Rattle.sym_machine.specs.Programs.{turned};
 ghost use Rattle.sym_machine.specs.Asks.{asks_into, asks_from, asks_read, asks_write, asks_with, asks_by};
 ghost use Rattle.sym_machine.specs.Steps.{Called};
@@ -51,7 +51,8 @@ impl<'a> Hart<'a> {
     pub fn calls(&mut self) -> Stepped
         requires { self.old.machine.ending ≡ Ending.Running }
         ensures answer { result ≡ answer_to
-            (asks_by self.old.file self.old.machine (word_in (value_of self.old.machine 17))) self.new.machine.ending }
+            (asks_by self.old.file self.old.machine (number_of_value (value_of self.old.machine 17)))
+            self.new.machine.ending }
         ensures turn { (input : List ℕ) → Called result input self.old self.new
             (turned self.old (calls self.old.file input self.old.machine)) }
     {
@@ -106,7 +107,7 @@ impl<'a> Hart<'a> {
         ensures answer { result ≡ answer_to Asks.Nothing self.new.machine.ending }
         ensures turn { (input : List ℕ) → Called result input self.old self.new
             (turned self.old (calls_with self.old.file input Call.Exits
-            (word_in (value_of self.old.machine 10)) self.old.machine)) }
+            (number_of_value (value_of self.old.machine 10)) self.old.machine)) }
     {
         match self.register(10) {
             Value::Num(word) => {
@@ -122,10 +123,10 @@ impl<'a> Hart<'a> {
     fn reads(&mut self) -> Stepped
         requires { self.old.machine.ending ≡ Ending.Running }
         ensures answer { result ≡ answer_to (asks_with self.old.file self.old.machine Call.Read
-            (word_in (value_of self.old.machine 10))) self.new.machine.ending }
+            (number_of_value (value_of self.old.machine 10))) self.new.machine.ending }
         ensures turn { (input : List ℕ) → Called result input self.old self.new
             (turned self.old (calls_with self.old.file input Call.Read
-            (word_in (value_of self.old.machine 10)) self.old.machine)) }
+            (number_of_value (value_of self.old.machine 10)) self.old.machine)) }
     {
         match self.register(10) {
             Value::Num(0) => self.reads_input(),
@@ -137,9 +138,10 @@ impl<'a> Hart<'a> {
     fn reads_input(&mut self) -> Stepped
         requires { self.old.machine.ending ≡ Ending.Running }
         ensures answer { result ≡ answer_to (asks_read self.old.file self.old.machine
-            (word_in (value_of self.old.machine 12))) self.new.machine.ending }
+            (number_of_value (value_of self.old.machine 12))) self.new.machine.ending }
         ensures turn { (input : List ℕ) → Called result input self.old self.new
-            (turned self.old (reads self.old.file input (word_in (value_of self.old.machine 12)) self.old.machine)) }
+            (turned self.old (reads self.old.file input (number_of_value (value_of self.old.machine 12))
+            self.old.machine)) }
     {
         match self.register(12) {
             Value::Num(len) => self.reads_to(len, buffer_in(len, self.register(11))),
@@ -172,10 +174,10 @@ impl<'a> Hart<'a> {
     fn writes(&mut self) -> Stepped
         requires { self.old.machine.ending ≡ Ending.Running }
         ensures answer { result ≡ answer_to (asks_with self.old.file self.old.machine Call.Write
-            (word_in (value_of self.old.machine 10))) self.new.machine.ending }
+            (number_of_value (value_of self.old.machine 10))) self.new.machine.ending }
         ensures turn { (input : List ℕ) → Called result input self.old self.new
             (turned self.old (calls_with self.old.file input Call.Write
-            (word_in (value_of self.old.machine 10)) self.old.machine)) }
+            (number_of_value (value_of self.old.machine 10)) self.old.machine)) }
     {
         match self.register(10) {
             Value::Num(1) | Value::Num(2) => self.writes_output(),
@@ -187,9 +189,10 @@ impl<'a> Hart<'a> {
     fn writes_output(&mut self) -> Stepped
         requires { self.old.machine.ending ≡ Ending.Running }
         ensures answer { result ≡ answer_to (asks_write self.old.file self.old.machine
-            (word_in (value_of self.old.machine 12))) self.new.machine.ending }
+            (number_of_value (value_of self.old.machine 12))) self.new.machine.ending }
         ensures turn { (input : List ℕ) → Called result input self.old self.new
-            (turned self.old (writes self.old.file input (word_in (value_of self.old.machine 12)) self.old.machine)) }
+            (turned self.old (writes self.old.file input (number_of_value (value_of self.old.machine 12))
+            self.old.machine)) }
     {
         match self.register(12) {
             Value::Num(len) => self.writes_from(len, buffer_in(len, self.register(11))),

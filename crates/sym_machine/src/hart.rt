@@ -5,7 +5,7 @@ ghost use Rattle.sym_value.specs.Decisions.{decide};
 ghost use Rattle.sym_value.specs.Operations.{apply};
 ghost use Rattle.sym_cells.specs.Memory.{loaded, stored};
 ghost use Rattle.sym_spec.specs.Plain.{is_plain, is_plain_store};
-ghost use Rattle.sym_spec.specs.SymCalls.{word_in};
+ghost use Rattle.sym_spec.specs.SymCalls.{number_of_value};
 ghost use Rattle.sym_spec.specs.SymMachine.{lives_of, value_of, gives, passes, ends, faults, loads, stores};
 ghost use Rattle.sym_machine.specs.Found.{IsKept, mask_back};
 ghost use Rattle.sym_machine.specs.Programs.{begun};
@@ -116,7 +116,7 @@ impl<'a> Hart<'a> {
     #[tactic(auto, using(crate::proofs::Registers::value_at))]
     pub fn number(&self, r: u8) -> Option<u32>
         requires { r < 32 }
-        ensures { result ≡ word_in (value_of self.now.machine r) }
+        ensures { result ≡ number_of_value (value_of self.now.machine r) }
     {
         if r == 0 {
             return Some(0);

@@ -5,7 +5,7 @@ ghost use Rattle.machine_spec.specs.Calls.{call_of};
 ghost use Rattle.machine_spec.specs.Widths.{size_of};
 ghost use Rattle.sym_value.specs.declared.Value.{Value};
 ghost use Rattle.sym_spec.specs.SymMachine.{value_of};
-ghost use Rattle.sym_spec.specs.SymCalls.{word_in};
+ghost use Rattle.sym_spec.specs.SymCalls.{number_of_value};
 ghost use Rattle.sym_spec.specs.SymNotes.{empty_note, access_to, uses_buffer, buffer_access, call_access, access_of};
 ghost use Rattle.sym_spec.specs.SymNotes.{return_in, back_through};
 ghost use Rattle.sym_machine.specs.Found.{IsNoHeap, NamesThere};
@@ -190,7 +190,7 @@ impl<'a> Hart<'a> {
 
     /// The access of a system call to its buffer.
     fn call_access(&self) -> Option<BlockAccess>
-        ensures { result ≡ call_access (word_in (value_of self.now.machine 17)) self.now.machine }
+        ensures { result ≡ call_access (number_of_value (value_of self.now.machine 17)) self.now.machine }
     {
         match self.register(17) {
             Value::Num(number) => if self.uses_buffer(number) {
@@ -203,7 +203,7 @@ impl<'a> Hart<'a> {
     }
 
     fn uses_buffer(&self, number: u32) -> bool
-        ensures { result ≡ uses_buffer (call_of number) (word_in (value_of self.now.machine 10)) }
+        ensures { result ≡ uses_buffer (call_of number) (number_of_value (value_of self.now.machine 10)) }
     {
         match (number, self.register(10)) {
             (63, Value::Num(fd)) => fd == 0,
@@ -213,7 +213,7 @@ impl<'a> Hart<'a> {
     }
 
     fn buffer_access(&self) -> Option<BlockAccess>
-        ensures { result ≡ buffer_access (word_in (value_of self.now.machine 12)) self.now.machine }
+        ensures { result ≡ buffer_access (number_of_value (value_of self.now.machine 12)) self.now.machine }
     {
         match self.register(12) {
             Value::Num(0) => None,

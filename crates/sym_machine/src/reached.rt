@@ -14,7 +14,7 @@ ghost use Rattle.sym_cells.specs.Memory.{live_of, loaded, stored};
 ghost use Rattle.sym_cells.specs.Buffers.{is_within, taken};
 ghost use Rattle.sym_spec.specs.Plain.{is_plain, is_plain_store};
 ghost use Rattle.sym_spec.specs.StartMemory.{start_memory};
-ghost use Rattle.sym_spec.specs.SymCalls.{word_in};
+ghost use Rattle.sym_spec.specs.SymCalls.{number_of_value};
 ghost use Rattle.sym_memory.specs.Held.{memory_after};
 ghost use Rattle.sym_machine.specs.Reached.{HeldMemory, IsLow, behind_by, number_at, put_from};
 
@@ -115,7 +115,7 @@ impl<'a> ImageMemory<'a> {
     /// The number that a load of a word gives at a plain address; none where it gives another value or none.
     #[inline(always)]
     pub fn word_at(&self, addr: u32) -> Option<u32>
-        ensures { result ≡ option_and_then word_in
+        ensures { result ≡ option_and_then number_of_value
             (loaded (is_plain self.now.file) self.now.memory Width.Word (Value.Num addr)) }
     {
         self.held.word_at(addr)

@@ -10,7 +10,7 @@ use Rattle.sym_value.specs.Places.{Lives, with_block, without_block, lives_in, c
 use Rattle.sym_value.specs.declared.live.Life.{Life}
 use Rattle.sym_cells.specs.Cells.{Cell, blank_cell, zero_cell}
 use Rattle.sym_cells.specs.Memory.{Block, life_of, set_block, died, overlaid, overlaid_block}
-use Rattle.sym_memory.specs.Kept.{HeldBlocks, block_with, block_of, blocks_of, IsKept, AreKept, reaches, is_alive}
+use Rattle.sym_memory.specs.Kept.{HeldBlocks, block_with, block_of, blocks_of, IsKept, AreKept, holds_access, is_alive}
 use Rattle.sym_memory.proofs.KeptLaws.{same_element, length-blocks, lives_of_blocks, block_is, kept_at, Reached}
 use Rattle.sym_memory.proofs.KeptLaws.{reached, written, written_kept, kept_more, blocks_more, kept_dead, blocks_dead}
 
@@ -31,7 +31,7 @@ alive live bs held i kept view e =
     (reach_none (slice_get (blocks_of live.blocks bs) i) (ap (λ (h : HeldBlocks). is_alive (slice_get h.blocks i)) view
     ∙ e))
   where
-    reach_none : (k : Option Block) → is_alive k ≡ true → reaches 0 0 k ≡ true
+    reach_none : (k : Option Block) → is_alive k ≡ true → holds_access 0 0 k ≡ true
     reach_none None f = absurd (cc)
     reach_none (Some k) f =
         let test : nat_le 0 (4 * length k.cells) ≡ true = le-leb _ _ (omega arith) in rw (f, test) refl

@@ -14,7 +14,7 @@ use Rattle.sym_cells.specs.Cells.{Cell, blank_cell, cell_in, mark_at}
 use Rattle.sym_cells.specs.Moves.{load_at, store}
 use Rattle.sym_cells.specs.Memory.{Block, capacity_of, life_of, is_aligned, loaded_in, stored_in, number_in, known_in}
 use Rattle.sym_cells.specs.Memory.{set_block}
-use Rattle.sym_memory.specs.Kept.{block_with, block_of, blocks_of, IsKept, AreKept, reaches}
+use Rattle.sym_memory.specs.Kept.{block_with, block_of, blocks_of, IsKept, AreKept, holds_access}
 
 pub same_length : (ks : List Life) (bs : List (List Cell)) → AreKept ks bs → length bs ≡ length ks
 same_length [] [] h = refl
@@ -101,31 +101,31 @@ no_block (k ∷ ks) (c ∷ bs) (suc i) e = no_block ks bs i e
 -- which bytes can be reached, out of lives and capacities
 pub reach_living : (ks : List Life) (bs : List (List Cell)) (i o n : ℕ) → AreKept ks bs
     → lives_in (slice_get ks i) ≡ true
-    → reaches o n (slice_get (blocks_of ks bs) i) ≡ nat_le (o + n) (capacity_in (slice_get ks i))
+    → holds_access o n (slice_get (blocks_of ks bs) i) ≡ nat_le (o + n) (capacity_in (slice_get ks i))
 reach_living ks bs i o n h e = by_life (slice_get ks i) refl e
   where
     by_life : (k : Option Life) → slice_get ks i ≡ k → lives_in k ≡ true
-        → reaches o n (slice_get (blocks_of ks bs) i) ≡ nat_le (o + n) (capacity_in k)
+        → holds_access o n (slice_get (blocks_of ks bs) i) ≡ nat_le (o + n) (capacity_in k)
     by_life None f l = absurd (cc)
     by_life (Some k) f l =
-        ap (reaches o n) (block_is ks bs i k h f)
-        ∙ ap (λ t. reaches o n (Some (block_with t k.capacity (slice_index_or bs i [])))) l
+        ap (holds_access o n) (block_is ks bs i k h f)
+        ∙ ap (λ t. holds_access o n (Some (block_with t k.capacity (slice_index_or bs i [])))) l
         ∙ ap (nat_le (o + n)) (sym ((kept_at ks bs i k h f).size l))
 
 pub reach_dead : (ks : List Life) (bs : List (List Cell)) (i o n : ℕ) → AreKept ks bs
     → lives_in (slice_get ks i) ≡ false
-    → false ≡ reaches o n (slice_get (blocks_of ks bs) i)
+    → false ≡ holds_access o n (slice_get (blocks_of ks bs) i)
 reach_dead ks bs i o n h e = sym (by_life (slice_get ks i) refl e)
   where
     by_life : (k : Option Life) → slice_get ks i ≡ k → lives_in k ≡ false
-        → reaches o n (slice_get (blocks_of ks bs) i) ≡ false
-    by_life None f l = ap (reaches o n) (no_block ks bs i f)
+        → holds_access o n (slice_get (blocks_of ks bs) i) ≡ false
+    by_life None f l = ap (holds_access o n) (no_block ks bs i f)
     by_life (Some k) f l =
-        ap (reaches o n) (block_is ks bs i k h f)
-        ∙ ap (λ t. reaches o n (Some (block_with t k.capacity (slice_index_or bs i [])))) l
+        ap (holds_access o n) (block_is ks bs i k h f)
+        ∙ ap (λ t. holds_access o n (Some (block_with t k.capacity (slice_index_or bs i [])))) l
 
 pub reach_past : (ks : List Life) (bs : List (List Cell)) (i o n : ℕ) → AreKept ks bs → length bs ≤ i
-    → false ≡ reaches o n (slice_get (blocks_of ks bs) i)
+    → false ≡ holds_access o n (slice_get (blocks_of ks bs) i)
 reach_past ks bs i o n h past =
     let m = same_length ks bs h in
     reach_dead ks bs i o n h (ap lives_in (slice_get_past ks i (omega (arith, m))))
@@ -140,25 +140,26 @@ pub record Reached (ks : List Life) (bs : List (List Cell)) (i o n : ℕ) : Type
   pub high : o + n ≤ 4 * length (slice_index_or bs i [])
 
 pub reached : (ks : List Life) (bs : List (List Cell)) (i o n : ℕ) → AreKept ks bs
-    → reaches o n (slice_get (blocks_of ks bs) i) ≡ true → Reached ks bs i o n
+    → holds_access o n (slice_get (blocks_of ks bs) i) ≡ true → Reached ks bs i o n
 reached ks bs i o n h e = by_life (slice_get ks i) refl
   where
     by_life : (k : Option Life) → slice_get ks i ≡ k → Reached ks bs i o n
     by_life None f =
-        let none : reaches o n (slice_get (blocks_of ks bs) i) ≡ false =
-        ap (reaches o n) (no_block ks bs i f) in absurd (cc)
+        let none : holds_access o n (slice_get (blocks_of ks bs) i) ≡ false =
+        ap (holds_access o n) (no_block ks bs i f) in absurd (cc)
     by_life (Some k) f = by_lives k.lives refl
       where
         by_lives : (t : Bool) → k.lives ≡ t → Reached ks bs i o n
         by_lives false l =
-            let none : reaches o n (slice_get (blocks_of ks bs) i) ≡ false =
-            ap (reaches o n) (block_is ks bs i k h f)
-            ∙ ap (λ t. reaches o n (Some (block_with t k.capacity (slice_index_or bs i [])))) l in
+            let none : holds_access o n (slice_get (blocks_of ks bs) i) ≡ false =
+            ap (holds_access o n) (block_is ks bs i k h f)
+            ∙ ap (λ t. holds_access o n (Some (block_with t k.capacity (slice_index_or bs i [])))) l in
             absurd (cc)
         by_lives true l =
             let block : slice_get (blocks_of ks bs) i ≡ Some (record { cells = slice_index_or bs i []; lives = true }) =
             block_is ks bs i k h f ∙ ap (λ t. Some (block_with t k.capacity (slice_index_or bs i []))) l in
-            let test : nat_le (o + n) (4 * length (slice_index_or bs i [])) ≡ true = sym (ap (reaches o n) block) ∙ e in
+            let test : nat_le (o + n) (4 * length (slice_index_or bs i [])) ≡ true =
+            sym (ap (holds_access o n) block) ∙ e in
             let m = same_length ks bs h in
             let inside = slice_get_within ks i k f in
             record {

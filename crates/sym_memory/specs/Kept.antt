@@ -37,8 +37,8 @@ AreKept [] (cells ∷ buffers) = ⊥
 AreKept (k ∷ lives) [] = ⊥
 
 -- the n bytes from an offset on can be reached
-abbrev pub reaches : ℕ → ℕ → Option Block → Bool
-reaches = is_inside_one
+abbrev pub holds_access : ℕ → ℕ → Option Block → Bool
+holds_access = is_inside_one
 
 -- a block that lives
 abbrev pub is_alive : Option Block → Bool

@@ -7,7 +7,7 @@ ghost use Rattle.sym_cells.specs.Cells.{zero_cell};
 ghost use Rattle.sym_memory.specs.Kept.{HeldBlocks, is_alive};
 
 use crate::block_cells::BlockCells;
-use crate::reaching::{can_reach, copy_in, known_in, load_in, store_in};
+use crate::reaching::{BlockByte, can_reach, copy_in, known_in, load_in, store_in};
 use rv_isa::Width;
 use std::alloc::{AllocError, Global};
 use std::marker::Model;
@@ -36,10 +36,9 @@ impl Blocks {
     pub fn new(alloc: Global, end: u32) -> Self
         ensures { result ≡ record { blocks = []; end = end } }
     {
-        Blocks {
-            live: Live::new(alloc, end),
-            buffers: Vec::new(alloc),
-        }
+        let live = Live::new(alloc, end);
+        let buffers = Vec::new(alloc);
+        Blocks { live, buffers }
     }
 
     /// The lives of the blocks, as values see them.
@@ -72,7 +71,8 @@ impl Blocks {
               (stored_in width offset value (slice_get self.old.blocks block)) self.old.blocks;
         } }
     {
-        store_in(&self.live, &mut self.buffers, block, width, offset, value)
+        let at = BlockByte { block, offset };
+        store_in(&self.live, &mut self.buffers, at, width, value)
     }
 
     /// Whether the block lives and has `len` bytes from an offset on.

@@ -150,9 +150,9 @@ pub fn plain_parts(alloc: Global, image: &Image) -> Result<Vec<PlainPart>, Alloc
     ensures storable { IfOk result (λ parts. (a : ℕ) → is_storable_in parts.items a ≡ is_plain_store image.now a) }
 {
     let segments = image.elf().segments.as_slice();
-    let parts = segment_parts(alloc, segments)?;
-    let parts = without_header(alloc, parts, segments)?;
-    let mut parts = without_code(alloc, parts, image.execs().as_slice())?;
+    let loaded = segment_parts(alloc, segments)?;
+    let behind_header = without_header(alloc, loaded, segments)?;
+    let mut parts = without_code(alloc, behind_header, image.execs().as_slice())?;
     add(&mut parts, stack_part())?;
     Ok(parts)
 }

@@ -2,7 +2,7 @@
 ghost use Rattle.std.specs.Prelude.{◌≡◌, ◌≢◌, ◌<◌, ◌≤◌, true, is_some, length, IfOk, OnErr, option_and_then, slice_get};
 ghost use Rattle.rv_isa.specs.declared.Width.{Width};
 ghost use Rattle.sym_value.specs.declared.Value.{Value};
-ghost use Rattle.sym_spec.specs.SymCalls.{word_in};
+ghost use Rattle.sym_spec.specs.SymCalls.{number_of_value};
 ghost use Rattle.sym_cells.specs.Memory.{live_of, loaded, stored, known, granted, copied, dropped};
 ghost use Rattle.sym_cells.specs.Buffers.{is_within};
 ghost use Rattle.elf_spec.specs.Memory.{image_end};
@@ -58,10 +58,9 @@ impl SymMemory {
         let parts = plain_parts(alloc, image)?;
         let spans = plain_spans(alloc, &parts, &memory, segments)?;
         let end = image_end(segments) as u32;
-        Ok(SymMemory {
-            plain: Plain::new(parts, spans),
-            blocks: Blocks::new(alloc, end),
-        })
+        let plain = Plain::new(parts, spans);
+        let blocks = Blocks::new(alloc, end);
+        Ok(SymMemory { plain, blocks })
     }
 
     /// The value of a load; none exactly where it isn't aligned, or not all its bytes are plain or in a
@@ -81,7 +80,7 @@ impl SymMemory {
     #[inline(always)]
     #[tactic(auto, using(crate::proofs::MemoryLaws::number_loaded))]
     pub fn word_at(&self, addr: u32) -> Option<u32>
-        ensures { result ≡ option_and_then word_in
+        ensures { result ≡ option_and_then number_of_value
             (loaded (is_plain_in self.now.parts) self.now.memory Width.Word (Value.Num addr)) }
     {
         match self.plain.load(Width::Word, addr) {

@@ -3,18 +3,25 @@ ghost use Rattle.std.specs.Prelude.{◌≡◌, ◌+◌, ◌^◌, ◌<◌, ◌≢
 ghost use Rattle.std.specs.Prelude.{slice_get};
 ghost use Rattle.machine_spec.specs.Widths.{size_of};
 ghost use Rattle.sym_cells.specs.Memory.{is_aligned, loaded_in, stored_in, known_in, set_block, overlaid};
-ghost use Rattle.sym_memory.specs.Kept.{blocks_of, AreKept, reaches};
+ghost use Rattle.sym_memory.specs.Kept.{blocks_of, AreKept, holds_access};
 
 use crate::block_cells::BlockCells;
 use crate::widths::{is_aligned, size_of};
 use rv_isa::Width;
 use sym_value::{Live, Value};
 
+/// The byte of a block at an offset.
+#[derive(Clone, Copy)]
+pub struct BlockByte {
+    pub block: u32,
+    pub offset: u32,
+}
+
 /// Whether a block lives and has `size` bytes from an offset on.
 pub fn can_reach(live: &Live, buffers: &[BlockCells], block: u32, offset: u32, size: usize) -> bool
     requires kept { AreKept live.now.blocks buffers.now }
     requires small { size < 2 ^ 32 }
-    ensures { result ≡ reaches offset size (slice_get (blocks_of live.now.blocks buffers.now) block) }
+    ensures { result ≡ holds_access offset size (slice_get (blocks_of live.now.blocks buffers.now) block) }
 {
     if (block as usize) < buffers.len() && live.lives(block) {
         offset as usize + size <= live.capacity(block) as usize
@@ -58,46 +65,41 @@ pub fn known_in(live: &Live, buffers: &[BlockCells], block: u32, offset: u32) ->
 pub fn store_in(
     live: &Live,
     buffers: &mut [BlockCells],
-    block: u32,
+    at: BlockByte,
     width: Width,
-    offset: u32,
     value: Value,
 ) -> bool
     requires { AreKept live.now.blocks buffers.old }
     ensures kept { AreKept live.now.blocks buffers.new }
-    ensures answer { result ≡ is_some (stored_in width offset value
-        (slice_get (blocks_of live.now.blocks buffers.old) block)) }
-    ensures blocks { blocks_of live.now.blocks buffers.new ≡ set_block block
-        (stored_in width offset value (slice_get (blocks_of live.now.blocks buffers.old) block))
+    ensures answer { result ≡ is_some (stored_in width at.offset value
+        (slice_get (blocks_of live.now.blocks buffers.old) at.block)) }
+    ensures blocks { blocks_of live.now.blocks buffers.new ≡ set_block at.block
+        (stored_in width at.offset value (slice_get (blocks_of live.now.blocks buffers.old) at.block))
         (blocks_of live.now.blocks buffers.old) }
 {
-    if is_aligned(width, offset) && can_reach(live, buffers, block, offset, size_of(width)) {
-        store_here(live, buffers, block, width, offset, value);
+    if is_aligned(width, at.offset)
+        && can_reach(live, buffers, at.block, at.offset, size_of(width))
+    {
+        store_here(live, buffers, at, width, value);
         true
     } else {
         false
     }
 }
 
-fn store_here(
-    live: &Live,
-    buffers: &mut [BlockCells],
-    block: u32,
-    width: Width,
-    offset: u32,
-    value: Value,
-)
+fn store_here(live: &Live, buffers: &mut [BlockCells], at: BlockByte, width: Width, value: Value)
     requires kept { AreKept live.now.blocks buffers.old }
-    requires aligned { is_aligned width offset ≡ true }
-    requires reached { reaches offset (size_of width) (slice_get (blocks_of live.now.blocks buffers.old) block) ≡ true }
+    requires aligned { is_aligned width at.offset ≡ true }
+    requires reached { holds_access at.offset (size_of width)
+        (slice_get (blocks_of live.now.blocks buffers.old) at.block) ≡ true }
     ensures kept { AreKept live.now.blocks buffers.new }
-    ensures answer { is_some (stored_in width offset value (slice_get (blocks_of live.now.blocks buffers.old) block))
-        ≡ true }
-    ensures blocks { blocks_of live.now.blocks buffers.new ≡ set_block block
-        (stored_in width offset value (slice_get (blocks_of live.now.blocks buffers.old) block))
+    ensures answer { is_some (stored_in width at.offset value
+        (slice_get (blocks_of live.now.blocks buffers.old) at.block)) ≡ true }
+    ensures blocks { blocks_of live.now.blocks buffers.new ≡ set_block at.block
+        (stored_in width at.offset value (slice_get (blocks_of live.now.blocks buffers.old) at.block))
         (blocks_of live.now.blocks buffers.old) }
 {
-    buffers[block as usize].store(width, offset as usize, value);
+    buffers[at.block as usize].store(width, at.offset as usize, value);
 }
 
 /// Copies the cells of one buffer in front of those of another, up to the lesser length.

@@ -25,9 +25,9 @@ abbrev pub answers : ℕ → SymMachine → SymMachine
 answers v m = gives 10 (Num v) m
 
 -- the word that a register holds; none where it isn't decided
-abbrev pub word_in : Value → Option ℕ
-word_in (Num w) = Some w
-word_in v = None
+abbrev pub number_of_value : Value → Option ℕ
+number_of_value (Num w) = Some w
+number_of_value v = None
 
 -- where a buffer starts that a register holds: a number or a pointer; none where it isn't decided
 abbrev pub pointer_in : Value → Option Value
@@ -77,9 +77,9 @@ writes file input None m = quiet input (faults F4 m)
 -- the turn of a call with the first argument in a0
 abbrev pub calls_with : List ℕ → List ℕ → Call → Option ℕ → SymMachine → SymTurn
 calls_with file input Read (Some fd) m =
-    if fd == 0 then reads file input (word_in (value_of m 12)) m else quiet input (answers bad_descriptor m)
+    if fd == 0 then reads file input (number_of_value (value_of m 12)) m else quiet input (answers bad_descriptor m)
 calls_with file input Write (Some fd) m =
-    if (fd == 1) || (fd == 2) then writes file input (word_in (value_of m 12)) m else quiet input
+    if (fd == 1) || (fd == 2) then writes file input (number_of_value (value_of m 12)) m else quiet input
     (answers bad_descriptor m)
 calls_with file input Exits (Some status) m = quiet input (ends (Exit (status % 256)) m)
 calls_with file input Brk first m = quiet input (answers 0 m)
@@ -88,8 +88,8 @@ calls_with file input call None m = quiet input (faults F4 m)
 
 -- the call whose number is in a7
 abbrev pub calls_by : List ℕ → List ℕ → Option ℕ → SymMachine → SymTurn
-calls_by file input (Some number) m = calls_with file input (call_of number) (word_in (value_of m 10)) m
+calls_by file input (Some number) m = calls_with file input (call_of number) (number_of_value (value_of m 10)) m
 calls_by file input None m = quiet input (faults F4 m)
 
 unfoldable pub calls : List ℕ → List ℕ → SymMachine → SymTurn
-calls file input m = calls_by file input (word_in (value_of m 17)) m
+calls file input m = calls_by file input (number_of_value (value_of m 17)) m

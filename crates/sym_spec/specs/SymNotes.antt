@@ -16,7 +16,7 @@ use Rattle.sym_value.specs.declared.Value.TheVariants.{Ptr, Ret}
 use Rattle.sym_spec.specs.declared.BlockAccess.{BlockAccess}
 use Rattle.sym_spec.specs.declared.StepNote.{StepNote}
 use Rattle.sym_spec.specs.SymMachine.{SymMachine, value_of}
-use Rattle.sym_spec.specs.SymCalls.{word_in}
+use Rattle.sym_spec.specs.SymCalls.{number_of_value}
 use Rattle.sym_spec.specs.HeapActions.{Outcome, outcome}
 use Rattle.sym_spec.specs.SymTurns.{Here, Nothing, Heap, Pair, Code, here, address_of, turn}
 
@@ -40,13 +40,14 @@ buffer_access None m = None
 
 abbrev pub call_access : Option ℕ → SymMachine → Option BlockAccess
 call_access (Some number) m =
-    if uses_buffer (call_of number) (word_in (value_of m 10)) then buffer_access (word_in (value_of m 12)) m else None
+    if uses_buffer (call_of number) (number_of_value (value_of m 10))
+    then buffer_access (number_of_value (value_of m 12)) m else None
 call_access None m = None
 
 abbrev pub access_of : List ℕ → Instr → SymMachine → Option BlockAccess
 access_of file (Load width rd rs1 imm) m = access_to (address_of file m rs1 imm) (size_of width)
 access_of file (Store width rs1 rs2 imm) m = access_to (address_of file m rs1 imm) (size_of width)
-access_of file Ecall m = call_access (word_in (value_of m 17)) m
+access_of file Ecall m = call_access (number_of_value (value_of m 17)) m
 access_of file i m = None
 
 -- the return address through which a jump goes

@@ -3,7 +3,7 @@ use Rattle.std.specs.Prelude.{Some}
 use Rattle.std.proofs.lemmas.Bool.{eqb-true}
 use Rattle.sym_cells.specs.Cells.{cell_in}
 use Rattle.sym_cells.specs.Moves.{load_at}
-use Rattle.sym_memory.specs.Kept.{blocks_of, reaches}
+use Rattle.sym_memory.specs.Kept.{blocks_of, holds_access}
 use Rattle.sym_memory.proofs.KeptLaws.{same_element, Reached, reached, load_done}
 use Rattle.sym_memory.proofs.reaching.load_in.Goals as goal
 

@@ -2,4 +2,5 @@ use Rattle.sym_memory.proofs.BlockLaws.{none_held}
 use Rattle.sym_memory.proofs.blocks.Blocks.new.Goals as goal
 
 pub returns : goal.returns
-returns c = none_held c.new.result c.new-2.result.items c.args.end c.new.ensures c.new-2.ensures.items
+returns c =
+    none_held c.new-live.result c.new-buffers.result.items c.args.end c.new-live.ensures c.new-buffers.ensures.items

@@ -12,20 +12,20 @@ use Rattle.sym_memory.proofs.memory.SymMemory.new.Goals as goal
 pub returns-clause-memory : goal.returns-clause-memory
 returns-clause-memory c =
     memory_is c.args.image.now c.in_ok-parts.parts.items c.deref.result.now c.in_ok-memory.memory
-    c.as_slice-segments.result.now _ c.new.result c.new-2.result _
+    c.as_slice-segments.result.now _ c.new-plain.result c.new-blocks.result _
     (fun_ext c.in_ok-parts.ensures.plain) c.deref.ensures.value (c.in_ok-memory.ensures ∙ ap memory_of c.file.ensures)
     (c.as_slice-segments.ensures ∙ ap (λ (e : Elf). e.segments) c.elf-elf.ensures.read.fields)
-    c.in_ok-spans.ensures c.new.ensures c.new-2.ensures
+    c.in_ok-spans.ensures c.new-plain.ensures c.new-blocks.ensures
 
 pub returns-clause-plain : goal.returns-clause-plain
 returns-clause-plain c =
-    ap (λ (p : HeldPlain). is_plain_in p.parts) c.new.ensures ∙ fun_ext c.in_ok-parts.ensures.plain
+    ap (λ (p : HeldPlain). is_plain_in p.parts) c.new-plain.ensures ∙ fun_ext c.in_ok-parts.ensures.plain
 
 pub returns-clause-storable : goal.returns-clause-storable
 returns-clause-storable c =
-    ap (λ (p : HeldPlain). is_storable_in p.parts) c.new.ensures ∙ fun_ext c.in_ok-parts.ensures.storable
+    ap (λ (p : HeldPlain). is_storable_in p.parts) c.new-plain.ensures ∙ fun_ext c.in_ok-parts.ensures.storable
 
 pub returns-clause-end : goal.returns-clause-end
 returns-clause-end c =
-    ap (λ (b : HeldBlocks). b.end) c.new-2.ensures ∙ c.image_end-end.ensures
+    ap (λ (b : HeldBlocks). b.end) c.new-blocks.ensures ∙ c.image_end-end.ensures
     ∙ ap image_end (c.as_slice-segments.ensures ∙ ap (λ (e : Elf). e.segments) c.elf-elf.ensures.read.fields)
