@@ -6,8 +6,8 @@ use Rattle.plan_core.specs.declared.types.Plan.{Plan}
 use Rattle.place_spec.specs.Layout.{first_layout}
 use Rattle.machine_spec.specs.declared.Ending.TheVariants.{Running, Exit}
 use Rattle.sym_value.specs.declared.Value.{Value}
-use Rattle.sym_value.specs.declared.Value.TheVariants.{Num, Ret, Unset}
-use Rattle.sym_spec.specs.SymMachine.{SymMachine}
+use Rattle.sym_value.specs.declared.Value.TheVariants.{Num, Ptr, Ret, Unset}
+use Rattle.sym_spec.specs.SymMachine.{SymMachine, value_of}
 use Rattle.sym_spec.specs.SymTurns.{turn}
 use Rattle.sym_spec.specs.SymRuns.{SymState, steps}
 use Rattle.machine_examples.proofs.HeapFiles.{heap_file}
@@ -73,6 +73,10 @@ pub run_sets_the_bit : (runs 2).machine.bits ≡ 1
 unfolding heap_turn_opened
 run_sets_the_bit = refl
 
+pub run_goes_to_malloc : (runs 2).machine.pc ≡ 0x10118
+unfolding heap_turn_opened
+run_goes_to_malloc = refl
+
 pub run_clears_the_bit : (runs 3).machine.bits ≡ 0
 unfolding heap_turn_opened
 run_clears_the_bit = refl
@@ -80,6 +84,10 @@ run_clears_the_bit = refl
 pub run_comes_back : (runs 3).machine.pc ≡ 0x1010C
 unfolding heap_turn_opened
 run_comes_back = refl
+
+pub run_gets_a_block : value_of (runs 3).machine 10 ≡ Ptr 0 0
+unfolding heap_turn_opened
+run_gets_a_block = refl
 
 pub run_places : (runs 3).machine.at ≡ 0x16110 ∷ []
 unfolding heap_turn_opened

@@ -15,5 +15,7 @@ pub mod HeapNotes
 pub mod HeapRegisters
 pub mod HeapBlocks
 pub mod HeapReturns
+pub mod NestedFiles
+pub mod HeapRuns
 pub mod PairTurns
 pub mod Endings

@@ -1,3 +1,3 @@
-// Three small programs, run by computation: their new files, their runs on both machines and single turns,
+// Small programs, run by computation: their new files, their runs on both machines and single turns,
 // as theorems in proofs/.
 #![tactic(auto)]
