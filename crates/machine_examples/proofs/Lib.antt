@@ -17,5 +17,6 @@ pub mod HeapBlocks
 pub mod HeapReturns
 pub mod NestedFiles
 pub mod HeapRuns
+pub mod HeapTables
 pub mod PairTurns
 pub mod Endings
