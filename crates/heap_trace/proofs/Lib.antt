@@ -13,3 +13,4 @@ pub mod Drawing
 pub mod AreaPlans
 pub mod RunTexts
 pub mod RunProfiles
+pub mod Joining

@@ -4,3 +4,4 @@ pub mod Traces
 pub mod Profiles
 pub mod Recorded
 pub mod Stacks
+pub mod GrantContexts

@@ -8,6 +8,6 @@ mod recording;
 mod stack;
 mod trace;
 
-pub use laws::runs_have_legal_events;
+pub use laws::{contexts_are_those_of_the_grants_of_a_run, runs_have_legal_events};
 pub use profiles::{ProfileEnd, Profiled, profile_run};
 pub use trace::Trace;

@@ -18,5 +18,6 @@ pub mod HeapReturns
 pub mod NestedFiles
 pub mod HeapRuns
 pub mod HeapTables
+pub mod NewHeapRuns
 pub mod PairTurns
 pub mod Endings
