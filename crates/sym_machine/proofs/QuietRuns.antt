@@ -12,7 +12,7 @@ use Rattle.sym_spec.specs.SymNotes.{empty_note, is_fault, ending_note, note}
 use Rattle.sym_spec.specs.SymTurns.{acts, executes, turn as machine_turn}
 use Rattle.sym_machine.specs.declared.found.Found.{Found}
 use Rattle.sym_machine.specs.declared.found.Found.TheVariants as found
-use Rattle.sym_machine.specs.Found.{found_at}
+use Rattle.sym_machine.specs.Found.{found_at, IsInstrAt}
 use Rattle.sym_machine.specs.Programs.{Program, turn, turned}
 use Rattle.sym_machine.specs.QuietTurns.{Does, GoesOn, IsQuiet, TakesOne}
 use Rattle.sym_machine.specs.Rules.{sym_rules}
@@ -31,7 +31,7 @@ ends_running i mask old runs is quiet_is =
     ∙ ap (λ (t : SymTurn). t.next.ending) quiet_is
 
 -- the turn of an instruction at no site
-pub takes_one : (b : Bool) (i : Instr) (mask : Option ℕ) (old new : Program) → old.machine.ending ≡ Running
+takes_one : (b : Bool) (i : Instr) (mask : Option ℕ) (old new : Program) → old.machine.ending ≡ Running
     → found.Word (Some i) false mask ≡ found_at old.file old.plan old.machine.pc
     → Does b (acts old.file old.plan i old.machine) old new
     → ((input : List ℕ) → b ≡ true → executes old.file old.plan input (Some i) old.machine
@@ -55,6 +55,16 @@ takes_one true i mask old new runs is does quiet_is note_is =
     noted =
         by_fault old false runs (ap is_fault (ends_running i mask old runs is (quiet_is [] refl) ∙ does.1 ∙ runs))
         ∙ ap (λ (f : Found). note_found old.file old.plan f old.machine) (sym is) ∙ note_is refl
+
+pub takes_there : (b : Bool) (i : Instr) (old new : Program) → old.machine.ending ≡ Running
+    → IsInstrAt old.file old.plan old.machine.pc i
+    → Does b (acts old.file old.plan i old.machine) old new
+    → ((input : List ℕ) → b ≡ true → executes old.file old.plan input (Some i) old.machine
+    ≡ quiet input (acts old.file old.plan i old.machine))
+    → (b ≡ true → instr_noted old.file (Some i) false old.machine ≡ empty_note)
+    → TakesOne b old new
+takes_there b i old new runs at does quiet_is note_is =
+    takes_one b i at.0 old new runs at.1 does quiet_is note_is
 
 -- one more turn
 pub one_more : (n : ℕ) (old mid new : Program) → GoesOn n old mid → TakesOne true mid new → GoesOn (n + 1) old new

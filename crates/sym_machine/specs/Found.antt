@@ -2,6 +2,7 @@
 -- bit is a mask.
 use Rattle.std.specs.Prelude.{◌≡◌, ℕ, ◌^◌, ◌<◌, ◌==◌, List, Bool, false, All, Option, Some, None, IfSome, is_some}
 use Rattle.std.specs.Prelude.{option_map, option_and_then, map, length, slice_get, bit_and, bit_or, ◌-◌}
+use Rattle.rv_isa.specs.declared.Instr.{Instr}
 use Rattle.rv_isa.specs.Encoded.{NamesRegisters}
 use Rattle.rv_isa.specs.Table.{decoded}
 use Rattle.elf_spec.specs.Code.{code_word}
@@ -75,6 +76,13 @@ pub record IsKept (file : List ℕ) (plan : Plan) (k : Kept) : Type 0 where
   pub code : k.is_code ≡ is_some (code_word file k.addr)
   pub found : k.found ≡ found_at file plan k.addr
   pub names : NamesThere k.found
+
+-- it is the code word of an instruction and no site
+abbrev pub HasInstr : Found → Instr → Type 0
+HasInstr f i = (mask : Option ℕ) × (found.Word (Some i) false mask ≡ f) × NamesRegisters i
+
+abbrev pub IsInstrAt : List ℕ → Plan → ℕ → Instr → Type 0
+IsInstrAt file plan a i = HasInstr (found_at file plan a) i
 
 -- where the calls of site lines come back to
 abbrev pub return_of : List ℕ → PlanLine → Return

@@ -1,12 +1,14 @@
 // The code of a program under its plan, with what was found at the addresses that were looked up last.
-ghost use Rattle.std.specs.Prelude.{◌≡◌, IfOk};
+ghost use Rattle.std.specs.Prelude.{◌≡◌, ◌<◌, is_some, IfOk, IfSome};
+ghost use Rattle.elf_spec.specs.Code.{code_word};
 ghost use Rattle.site_spec.specs.Plans.{Fits};
-ghost use Rattle.sym_machine.specs.Found.{IsKept, mask_back};
+ghost use Rattle.sym_machine.specs.Found.{HasInstr, IsInstrAt, IsKept, NamesThere, mask_back};
 
 use crate::found::{Found, Kept, look_up};
 use crate::returns::{Return, mask_back, read_returns};
 use exec_image::Image;
 use plan_core::Plan;
+use rv_isa::Instr;
 use std::alloc::{AllocError, Global};
 use std::marker::Model;
 
@@ -53,15 +55,39 @@ pub fn code_of<'a>(alloc: Global, image: &'a Image, plan: &'a Plan) -> Result<Co
     })
 }
 
+/// The place in which what stands at an address is kept.
+#[inline(always)]
+fn place_of(addr: u32) -> usize
+    ensures { result < 16384 }
+{
+    (addr / 4) as usize % PLACES
+}
+
+/// The instruction of a code word that is no site.
+#[inline(always)]
+fn instr_in(found: Found) -> Option<Instr>
+    requires { NamesThere found }
+    ensures { IfSome result (HasInstr found) }
+{
+    match found {
+        Found::Word {
+            instr: Some(i),
+            is_site: false,
+            ..
+        } => Some(i),
+        _ => None,
+    }
+}
+
 impl<'a> Code<'a> {
     /// What stands at an address.
-    #[inline(always)]
+    #[inline(never)]
     pub fn at(&mut self, addr: u32) -> Kept
         ensures kept { IsKept self.old.file self.old.plan result }
         ensures addr { result.addr ≡ addr }
         ensures same { self.new ≡ self.old }
     {
-        let place = (addr / 4) as usize % PLACES;
+        let place = place_of(addr);
         let kept = self.kept[place];
         if kept.addr == addr {
             return kept;
@@ -69,6 +95,50 @@ impl<'a> Code<'a> {
         let kept = look_up(self.image, self.plan, addr);
         self.kept[place] = kept;
         kept
+    }
+
+    /// The instruction of the code word at an address that is no site; none where something else stands.
+    #[inline(always)]
+    pub fn instr_at(&mut self, addr: u32) -> Option<Instr>
+        ensures instr { IfSome result (IsInstrAt self.old.file self.old.plan addr) }
+        ensures same { self.new ≡ self.old }
+    {
+        let kept = self.kept[place_of(addr)];
+        if kept.addr == addr {
+            instr_in(kept.found)
+        } else {
+            self.instr_anew(addr)
+        }
+    }
+
+    #[inline(never)]
+    fn instr_anew(&mut self, addr: u32) -> Option<Instr>
+        ensures instr { IfSome result (IsInstrAt self.old.file self.old.plan addr) }
+        ensures same { self.new ≡ self.old }
+    {
+        instr_in(self.at(addr).found)
+    }
+
+    /// Whether a code word stands at an address.
+    #[inline(always)]
+    pub fn is_code(&mut self, addr: u32) -> bool
+        ensures answer { result ≡ is_some (code_word self.old.file addr) }
+        ensures same { self.new ≡ self.old }
+    {
+        let kept = self.kept[place_of(addr)];
+        if kept.addr == addr {
+            kept.is_code
+        } else {
+            self.is_code_anew(addr)
+        }
+    }
+
+    #[inline(never)]
+    fn is_code_anew(&mut self, addr: u32) -> bool
+        ensures answer { result ≡ is_some (code_word self.old.file addr) }
+        ensures same { self.new ≡ self.old }
+    {
+        self.at(addr).is_code
     }
 
     /// The mask of the bit of the line whose call comes back to an address.

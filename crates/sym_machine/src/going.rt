@@ -14,7 +14,6 @@ ghost use Rattle.sym_spec.specs.SymTurns.{acts, address_of, branches, executes};
 ghost use Rattle.sym_machine.specs.QuietTurns.{Does, GoesOn, TakesOne};
 ghost use Rattle.sym_machine.specs.Turning.{instr_noted, is_number};
 
-use crate::found::Found;
 use crate::hart::Hart;
 use crate::numbers::{computed, is_held};
 use rv_isa::{Cond, Instr, Op, Width};
@@ -43,19 +42,14 @@ impl<'a> Hart<'a> {
 
     /// One turn, or none, and nothing changes.
     #[inline(always)]
-    #[tactic(auto, using(crate::proofs::QuietRuns::takes_one))]
+    #[tactic(auto, using(crate::proofs::QuietRuns::takes_there))]
     fn takes_quiet_turn(&mut self) -> bool
         requires { self.old.machine.ending ≡ Ending.Running }
         ensures { TakesOne result self.old self.new }
     {
-        let found = self.look_at(self.pc()).found;
-        match found {
-            Found::Word {
-                instr: Some(i),
-                is_site: false,
-                ..
-            } => self.acts_quietly(i),
-            _ => false,
+        match self.instr_at(self.pc) {
+            Some(i) => self.acts_quietly(i),
+            None => false,
         }
     }
 
@@ -162,7 +156,7 @@ impl<'a> Hart<'a> {
         requires { rd < 32 }
         ensures { Does result (jumps self.old.file self.old.plan rd target self.old.machine) self.old self.new }
     {
-        if rd != RA && self.look_at(target).is_code {
+        if rd != RA && self.is_code(target) {
             self.registers[rd as usize] = Value::Num(self.pc.wrapping_add(4));
             self.pc = target;
             true
@@ -176,7 +170,7 @@ impl<'a> Hart<'a> {
     fn goes_quietly(&mut self, target: u32) -> bool
         ensures { Does result (goes_to self.old.file target self.old.machine) self.old self.new }
     {
-        let is_code = self.look_at(target).is_code;
+        let is_code = self.is_code(target);
         if is_code {
             self.pc = target;
         }

@@ -1,5 +1,6 @@
 // The machine between two turns, and the ways in which an instruction changes it.
-ghost use Rattle.std.specs.Prelude.{◌≡◌, ◌+◌, ◌^◌, ◌<◌, length};
+ghost use Rattle.std.specs.Prelude.{◌≡◌, ◌+◌, ◌^◌, ◌<◌, is_some, length, IfSome};
+ghost use Rattle.elf_spec.specs.Code.{code_word};
 ghost use Rattle.sym_value.specs.declared.Value.{Value};
 ghost use Rattle.sym_value.specs.Decisions.{decide};
 ghost use Rattle.sym_value.specs.Operations.{apply};
@@ -7,7 +8,7 @@ ghost use Rattle.sym_cells.specs.Memory.{loaded, stored};
 ghost use Rattle.sym_spec.specs.Plain.{is_plain, is_plain_store};
 ghost use Rattle.sym_spec.specs.SymCalls.{number_of_value};
 ghost use Rattle.sym_spec.specs.SymMachine.{lives_of, value_of, gives, passes, ends, faults, loads, stores};
-ghost use Rattle.sym_machine.specs.Found.{IsKept, mask_back};
+ghost use Rattle.sym_machine.specs.Found.{IsInstrAt, IsKept, mask_back};
 ghost use Rattle.sym_machine.specs.Programs.{begun};
 ghost use Rattle.sym_machine.specs.Seen.{fed_on, IsStorable};
 
@@ -17,7 +18,7 @@ use crate::found::Kept;
 use crate::numbers::{computed, is_held};
 use crate::reached::ImageMemory;
 use machine_spec::{Ending, FaultKind};
-use rv_isa::{Cond, Op, Width};
+use rv_isa::{Cond, Instr, Op, Width};
 use std::marker::Model;
 use sym_value::{Value, apply, decide};
 
@@ -128,13 +129,30 @@ impl<'a> Hart<'a> {
     }
 
     /// What stands at an address.
-    #[inline(always)]
     pub fn look_at(&mut self, addr: u32) -> Kept
         ensures kept { IsKept self.old.file self.old.plan result }
         ensures addr { result.addr ≡ addr }
         ensures same { self.new ≡ self.old }
     {
         self.code.at(addr)
+    }
+
+    /// The instruction of the code word at an address that is no site; none where something else stands.
+    #[inline(always)]
+    pub fn instr_at(&mut self, addr: u32) -> Option<Instr>
+        ensures instr { IfSome result (IsInstrAt self.old.file self.old.plan addr) }
+        ensures same { self.new ≡ self.old }
+    {
+        self.code.instr_at(addr)
+    }
+
+    /// Whether a code word stands at an address.
+    #[inline(always)]
+    pub fn is_code(&mut self, addr: u32) -> bool
+        ensures answer { result ≡ is_some (code_word self.old.file addr) }
+        ensures same { self.new ≡ self.old }
+    {
+        self.code.is_code(addr)
     }
 
     /// The mask of the bit of the line whose call comes back to an address.

@@ -38,7 +38,7 @@ impl<'a> Hart<'a> {
     pub fn goes_to(&mut self, target: u32)
         ensures { self.new ≡ record self.old { machine = goes_to self.old.file target self.old.machine } }
     {
-        if self.look_at(target).is_code {
+        if self.is_code(target) {
             self.pc = target;
         } else {
             self.faults(FaultKind::F3);
@@ -76,7 +76,7 @@ impl<'a> Hart<'a> {
         ensures { self.new
             ≡ record self.old { machine = jumps self.old.file self.old.plan rd target self.old.machine } }
     {
-        if self.look_at(target).is_code {
+        if self.is_code(target) {
             self.links(rd, mask);
             self.pc = target;
         } else {

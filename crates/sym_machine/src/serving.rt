@@ -50,7 +50,7 @@ impl<'a> Hart<'a> {
     {
         match to {
             Value::Ret(_) => true,
-            Value::Num(addr) => self.look_at(addr).is_code,
+            Value::Num(addr) => self.is_code(addr),
             _ => false,
         }
     }
