@@ -80,7 +80,7 @@ impl<'a> Hart<'a> {
                 rs1,
                 rs2,
                 imm,
-            } => self.branches_quietly(self.decided(cond, rs1, rs2), pc.wrapping_add(imm)),
+            } => self.branches_quietly(cond, rs1, rs2, pc.wrapping_add(imm)),
             Instr::Load {
                 width,
                 rd,
@@ -96,15 +96,12 @@ impl<'a> Hart<'a> {
             Instr::OpImm { op, rd, rs1, imm } => {
                 match self.number(rs1) {
                     Some(v) => self.gives(rd, Value::Num(computed(op, v, imm))),
-                    None => self.operates(op, rd, self.register(rs1), Value::Num(imm)),
+                    None => self.operates_with(op, rd, rs1, imm),
                 }
                 true
             }
             Instr::Reg { op, rd, rs1, rs2 } => {
-                match (self.number(rs1), self.number(rs2)) {
-                    (Some(v), Some(w)) => self.gives(rd, Value::Num(computed(op, v, w))),
-                    _ => self.operates(op, rd, self.register(rs1), self.register(rs2)),
-                }
+                self.operates_quietly(op, rd, rs1, rs2);
                 true
             }
             Instr::Fence { .. } => {
@@ -115,39 +112,54 @@ impl<'a> Hart<'a> {
         }
     }
 
-    /// An operation on two values, of which one may be no number.
-    #[inline(never)]
-    fn operates(&mut self, op: Op, rd: u8, a: Value, b: Value)
-        requires { rd < 32 }
+    /// An operation on two registers.
+    #[inline(always)]
+    #[tactic(auto, using(crate::proofs::Quiet::applied_there))]
+    fn operates_quietly(&mut self, op: Op, rd: u8, rs1: u8, rs2: u8)
+        requires first { rs1 < 32 }
+        requires second { rs2 < 32 }
+        requires register { rd < 32 }
         ensures { self.new ≡ record self.old {
-          machine = gives rd (apply (lives_of self.old.file self.old.machine) op a b) self.old.machine;
+          machine = gives rd (apply (lives_of self.old.file self.old.machine) op
+              (value_of self.old.machine rs1) (value_of self.old.machine rs2)) self.old.machine;
         } }
     {
-        let value = self.apply(op, a, b);
+        if let Some(v) = self.number(rs1) {
+            if let Some(w) = self.number(rs2) {
+                self.gives(rd, Value::Num(computed(op, v, w)));
+                return;
+            }
+        }
+        self.operates(op, rd, rs1, rs2);
+    }
+
+    /// An operation on two registers, of which one may hold no number.
+    #[inline(never)]
+    fn operates(&mut self, op: Op, rd: u8, rs1: u8, rs2: u8)
+        requires first { rs1 < 32 }
+        requires second { rs2 < 32 }
+        requires register { rd < 32 }
+        ensures { self.new ≡ record self.old {
+          machine = gives rd (apply (lives_of self.old.file self.old.machine) op
+              (value_of self.old.machine rs1) (value_of self.old.machine rs2)) self.old.machine;
+        } }
+    {
+        let value = self.apply(op, self.register(rs1), self.register(rs2));
         self.gives(rd, value);
     }
 
-    /// Whether a condition of two registers holds; none where that isn't decided.
-    #[inline(always)]
-    #[tactic(auto, using(crate::proofs::Quiet::decided_there))]
-    fn decided(&self, cond: Cond, rs1: u8, rs2: u8) -> Option<bool>
-        requires first { rs1 < 32 }
-        requires second { rs2 < 32 }
-        ensures { result ≡ decide (lives_of self.now.file self.now.machine) cond
-            (value_of self.now.machine rs1) (value_of self.now.machine rs2) }
-    {
-        match (self.number(rs1), self.number(rs2)) {
-            (Some(v), Some(w)) => Some(is_held(cond, v, w)),
-            _ => self.decided_of(cond, self.register(rs1), self.register(rs2)),
-        }
-    }
-
-    /// Whether a condition of two values holds, of which one may be no number.
+    /// An operation on a register, which may hold no number, and a number.
     #[inline(never)]
-    fn decided_of(&self, cond: Cond, a: Value, b: Value) -> Option<bool>
-        ensures { result ≡ decide (lives_of self.now.file self.now.machine) cond a b }
+    fn operates_with(&mut self, op: Op, rd: u8, rs1: u8, imm: u32)
+        requires first { rs1 < 32 }
+        requires register { rd < 32 }
+        ensures { self.new ≡ record self.old {
+          machine = gives rd (apply (lives_of self.old.file self.old.machine) op
+              (value_of self.old.machine rs1) (Value.Num imm)) self.old.machine;
+        } }
     {
-        self.decide(cond, a, b)
+        let value = self.apply(op, self.register(rs1), Value::Num(imm));
+        self.gives(rd, value);
     }
 
     /// A jump that links no return address, to a code word.
@@ -179,15 +191,46 @@ impl<'a> Hart<'a> {
 
     /// A branch that is decided.
     #[inline(always)]
-    fn branches_quietly(&mut self, decided: Option<bool>, target: u32) -> bool
-        ensures { Does result (branches self.old.file decided target self.old.machine) self.old self.new }
+    #[tactic(auto, using(crate::proofs::Quiet::decided_there))]
+    fn branches_quietly(&mut self, cond: Cond, rs1: u8, rs2: u8, target: u32) -> bool
+        requires first { rs1 < 32 }
+        requires second { rs2 < 32 }
+        ensures { Does result (branches self.old.file (decide (lives_of self.old.file self.old.machine) cond
+            (value_of self.old.machine rs1) (value_of self.old.machine rs2)) target self.old.machine)
+            self.old self.new }
     {
-        match decided {
-            Some(true) => self.goes_quietly(target),
-            Some(false) => {
-                self.passes();
-                true
+        if let Some(v) = self.number(rs1) {
+            if let Some(w) = self.number(rs2) {
+                return self.branches_so(is_held(cond, v, w), target);
             }
+        }
+        self.branches_by(cond, rs1, rs2, target)
+    }
+
+    /// A branch whose condition holds, or doesn't.
+    #[inline(always)]
+    fn branches_so(&mut self, holds: bool, target: u32) -> bool
+        ensures { Does result (branches self.old.file (Some holds) target self.old.machine) self.old self.new }
+    {
+        if holds {
+            self.goes_quietly(target)
+        } else {
+            self.passes();
+            true
+        }
+    }
+
+    /// A branch by two registers, of which one may hold no number.
+    #[inline(never)]
+    fn branches_by(&mut self, cond: Cond, rs1: u8, rs2: u8, target: u32) -> bool
+        requires first { rs1 < 32 }
+        requires second { rs2 < 32 }
+        ensures { Does result (branches self.old.file (decide (lives_of self.old.file self.old.machine) cond
+            (value_of self.old.machine rs1) (value_of self.old.machine rs2)) target self.old.machine)
+            self.old self.new }
+    {
+        match self.decide(cond, self.register(rs1), self.register(rs2)) {
+            Some(holds) => self.branches_so(holds, target),
             None => false,
         }
     }
@@ -246,13 +289,36 @@ impl<'a> Hart<'a> {
             return false;
         };
         let addr = base.wrapping_add(imm);
-        let stored = match (width, self.number(rs2)) {
-            (Width::Word, Some(word)) => self.memory.store_word(addr, word),
-            _ => {
-                let value = self.register(rs2);
-                self.memory.store(Value::Num(addr), width, value)
+        if let Width::Word = width {
+            if let Some(word) = self.number(rs2) {
+                return self.stores_word(addr, word);
             }
-        };
+        }
+        self.stores_by(width, addr, rs2)
+    }
+
+    /// A store of a number as a word.
+    #[inline(always)]
+    fn stores_word(&mut self, addr: u32, word: u32) -> bool
+        ensures { Does result (stores (stored (is_plain_store self.old.file) self.old.machine.memory Width.Word
+            (Value.Num addr) (Value.Num word)) self.old.machine) self.old self.new }
+    {
+        let stored = self.memory.store_word(addr, word);
+        if stored {
+            self.passes();
+        }
+        stored
+    }
+
+    /// A store of any width and value.
+    #[inline(never)]
+    fn stores_by(&mut self, width: Width, addr: u32, rs2: u8) -> bool
+        requires { rs2 < 32 }
+        ensures { Does result (stores (stored (is_plain_store self.old.file) self.old.machine.memory width
+            (Value.Num addr) (value_of self.old.machine rs2)) self.old.machine) self.old self.new }
+    {
+        let value = self.register(rs2);
+        let stored = self.memory.store(Value::Num(addr), width, value);
         if stored {
             self.passes();
         }
