@@ -7,7 +7,8 @@ use Rattle.endings.specs.declared.endings.Ending.{Ending}
 use Rattle.endings.specs.declared.endings.Ending.TheVariants.{Done, ReadFault, Exited, Usage}
 use Rattle.halo_words.specs.Grammar.{operand_in}
 use Rattle.halo_cli.specs.PlanAndFile.{AreRead, refused_ending, both_reads}
-use Rattle.halo_cli.specs.Rewrite.{TextRewrites, RewriteComes, RewriteBrings, RewriteWrites, Makes, rewrite_entry}
+use Rattle.halo_cli.specs.RewriteCommand.{TextRewrites, RewriteComes, RewriteBrings, RewriteWrites, Makes}
+use Rattle.halo_cli.specs.RewriteCommand.{rewrite_entry}
 use Rattle.halo_cli.proofs.CommandLaws.{Laws, text_laws}
 use Rattle.halo_cli.proofs.PlanAndFileDue.{TextsOnce, text_once, of_text, of_both, both_once, both_told, both_lack}
 use Rattle.halo_cli.proofs.ReadsDue.{IsDecided, decided_as}

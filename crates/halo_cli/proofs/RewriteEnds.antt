@@ -8,7 +8,7 @@ use Rattle.halo_cli.specs.World.{OnlyReads, OnlyWrites}
 use Rattle.halo_cli.specs.Reads.{AreFirstReads, HasReadCause}
 use Rattle.halo_cli.specs.Writing.{IsStop}
 use Rattle.halo_cli.specs.PlanAndFile.{both_reads}
-use Rattle.halo_cli.specs.Rewrite.{RewriteBrings, RewriteWrites}
+use Rattle.halo_cli.specs.RewriteCommand.{RewriteBrings, RewriteWrites}
 use Rattle.halo_cli.specs.Ends.{Ends}
 use Rattle.halo_cli.proofs.RewriteDue.{rewrite_never_usage}
 use Rattle.halo_cli.proofs.Stopping.{moves_of, no_write, stop_leaves, stop_cause}

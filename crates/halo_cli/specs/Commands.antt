@@ -5,7 +5,7 @@ use Rattle.halo_words.specs.Grammar.{Asked}
 use Rattle.halo_cli.specs.World.{Outside}
 use Rattle.halo_cli.specs.Entry.{Entry}
 use Rattle.halo_cli.specs.Options.{Policies}
-use Rattle.halo_cli.specs.Rewrite.{rewrite_entry}
+use Rattle.halo_cli.specs.RewriteCommand.{rewrite_entry}
 use Rattle.halo_cli.specs.Run.{run_entry}
 use Rattle.halo_cli.specs.Symbols.{symbols_entry}
 use Rattle.halo_cli.specs.Show.{show_entry}

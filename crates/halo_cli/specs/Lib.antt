@@ -6,7 +6,7 @@ pub mod Entry
 pub mod Options
 pub mod Valid
 pub mod PlanAndFile
-pub mod Rewrite
+pub mod RewriteCommand
 pub mod Runs
 pub mod Run
 pub mod Symbols

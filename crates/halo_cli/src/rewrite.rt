@@ -5,7 +5,7 @@ ghost use Rattle.endings.specs.declared.endings.Ending.TheVariants.{Done};
 ghost use Rattle.halo_words.specs.Grammar.{Given, operand_in};
 ghost use Rattle.halo_cli.specs.Reads.{AreFirstReads, HasReadCause};
 ghost use Rattle.halo_cli.specs.PlanAndFile.{both_reads};
-ghost use Rattle.halo_cli.specs.Rewrite.{Makes, RewriteBrings, RewriteWrites, TextRewrites};
+ghost use Rattle.halo_cli.specs.RewriteCommand.{Makes, RewriteBrings, RewriteWrites, TextRewrites};
 ghost use Rattle.halo_cli.specs.Writing.{IsStop};
 ghost use Rattle.halo_cli.specs.World.{OnlyReads};
 ghost use Rattle.halo_cli.specs.Ends.{Ends};
@@ -30,7 +30,9 @@ pub fn rewrite_file<F: Files, O: Sink>(
         (record { files = F.seen files.old; input = input; out = O.seen out.old })
         (record { files = F.seen files.new; input = input; out = O.seen out.new }) result }
 {
-    write_new_file(alloc, values.operand(0), values.operand(1), files, out)
+    let plan_name = values.operand(0);
+    let file_name = values.operand(1);
+    write_new_file(alloc, plan_name, file_name, files, out)
 }
 
 // Writes the new file of the file of the second name under the plan of the first.

@@ -43,7 +43,9 @@ pub fn symbols_file<F: Files, I: Source, O: Sink>(
         (record { files = F.seen files.new; input = I.seen input.new; out = O.seen out.new }) result }
 {
     let steps = steps_of(values);
-    match load_planned(alloc, values.operand(0), values.operand(1), files) {
+    let plan_name = values.operand(0);
+    let file_name = values.operand(1);
+    match load_planned(alloc, plan_name, file_name, files) {
         Err(ending) => ending,
         Ok(planned) => run_planned(alloc, &planned, steps, input, out),
     }

@@ -3,11 +3,11 @@
 
 mod data;
 mod entries;
+mod new_file;
 mod patches;
 mod places;
 mod refusal;
-mod rewriting;
 mod text;
 
+pub use new_file::rewrite;
 pub use refusal::RewriteRefusal;
-pub use rewriting::rewrite;

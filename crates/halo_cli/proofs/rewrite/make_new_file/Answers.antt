@@ -1,7 +1,7 @@
 -- What was read is rewritten.
 use Rattle.std.proofs.Common.{inr}
 use Rattle.std.proofs.lemmas.Result.{IfOk-weaker, IfErr-weaker}
-use Rattle.halo_cli.specs.Rewrite.{TextRewrites}
+use Rattle.halo_cli.specs.RewriteCommand.{TextRewrites}
 use Rattle.halo_cli.proofs.PlanAndFileDue.{read_cause, made_cause}
 use Rattle.halo_cli.proofs.RewriteDue.{made_comes, made_writes}
 use Rattle.halo_cli.proofs.rewrite.make_new_file.Goals as goal

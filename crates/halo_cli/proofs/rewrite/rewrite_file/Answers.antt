@@ -3,4 +3,5 @@ use Rattle.halo_cli.proofs.rewrite.rewrite_file.Goals as goal
 
 pub returns : goal.returns
 returns g c = λ input.
-    c.write_new_file.ensures c.args.values.now.given input (sym c.operand.ensures) (sym c.operand-2.ensures)
+    c.write_new_file.ensures c.args.values.now.given input (sym c.operand-plan_name.ensures)
+    (sym c.operand-file_name.ensures)

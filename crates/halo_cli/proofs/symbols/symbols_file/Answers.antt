@@ -6,8 +6,8 @@ pub returns-in-Err : goal.returns-in-Err
 returns-in-Err g c =
     symbols_stop c.args.values.now.given (g.F.Files.seen c.args.files.now) (g.F.Files.seen c.load_planned.new.files)
     (g.I.Source.seen c.args.input.now) (g.O.Sink.seen c.args.out.now) c.in-Err.ending c.in-Err.ensures.reads
-    (rw (c.operand.ensures, c.operand-2.ensures) at c.in-Err.ensures.first) c.in-Err.ensures.stops
-    (rw (c.operand.ensures, c.operand-2.ensures) at c.in-Err.ensures.cause)
+    (rw (c.operand-plan_name.ensures, c.operand-file_name.ensures) at c.in-Err.ensures.first) c.in-Err.ensures.stops
+    (rw (c.operand-plan_name.ensures, c.operand-file_name.ensures) at c.in-Err.ensures.cause)
 
 pub returns-in-Ok : goal.returns-in-Ok
 returns-in-Ok g c =
@@ -28,7 +28,7 @@ returns-in-Ok g c =
     } in
     symbols_done c.args.values.now.given (record { file = c.in-Ok.planned.image; plan = c.in-Ok.planned.plan }) before
     now
-    (rw (c.operand.ensures, c.operand-2.ensures) at c.in-Ok.ensures.loads) moves
-    (rw (c.operand.ensures, c.operand-2.ensures) at c.in-Ok.ensures.whole) _
+    (rw (c.operand-plan_name.ensures, c.operand-file_name.ensures) at c.in-Ok.ensures.loads) moves
+    (rw (c.operand-plan_name.ensures, c.operand-file_name.ensures) at c.in-Ok.ensures.whole) _
     (rw c.steps_of-steps.ensures at c.run_planned.ensures.ran (g.F.Files.seen c.args.files.now)
     (g.F.Files.seen c.load_planned.new.files))

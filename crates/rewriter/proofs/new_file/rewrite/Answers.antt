@@ -1,6 +1,6 @@
 -- All checks pass, and the new file is due.
 use Rattle.rewriter.proofs.NewFiles.{rewritten_is}
-use Rattle.rewriter.proofs.rewriting.rewrite.Goals as goal
+use Rattle.rewriter.proofs.new_file.rewrite.Goals as goal
 
 pub returns-in-Ok-new_file_of-clause-done : goal.returns-in-Ok-new_file_of-clause-done
 returns-in-Ok-new_file_of-clause-done c =

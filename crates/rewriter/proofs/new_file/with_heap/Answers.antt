@@ -8,7 +8,7 @@ use Rattle.heap_code.specs.Images.{Holds, entries_in}
 use Rattle.elf_write.specs.NewMemory.{NewMemory}
 use Rattle.new_file_laws.specs.Parts.{AreParts}
 use Rattle.rewriter.proofs.NewFiles.{made_patches, made_segments, of_parts, reached_in, with_heap_is}
-use Rattle.rewriter.proofs.rewriting.with_heap.Goals as goal
+use Rattle.rewriter.proofs.new_file.with_heap.Goals as goal
 
 pub build-requires : goal.build-requires
 build-requires c =

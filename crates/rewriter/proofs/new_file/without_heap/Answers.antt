@@ -6,7 +6,7 @@ use Rattle.new_file_spec.specs.Rewritten.{patches_for, segments_for}
 use Rattle.elf_write.specs.NewMemory.{NewMemory}
 use Rattle.new_file_laws.specs.Parts.{AreParts}
 use Rattle.rewriter.proofs.NewFiles.{none_given, of_parts, without_heap_is}
-use Rattle.rewriter.proofs.rewriting.without_heap.Goals as goal
+use Rattle.rewriter.proofs.new_file.without_heap.Goals as goal
 
 pub written-requires-clause-parts : goal.written-requires-clause-parts
 written-requires-clause-parts c =

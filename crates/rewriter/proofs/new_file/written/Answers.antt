@@ -1,6 +1,6 @@
 -- The new file of the image is that of its bytes.
 use Rattle.rewriter.proofs.NewFiles.{header_is, readable_is}
-use Rattle.rewriter.proofs.rewriting.written.Goals as goal
+use Rattle.rewriter.proofs.new_file.written.Goals as goal
 
 pub returns-clause-entry : goal.returns-clause-entry
 returns-clause-entry c =
