@@ -188,7 +188,9 @@ fn is_heap_second(image: &Image, addr: u32) -> bool
 fn is_behind_one(image: &Image, names: &[HeapName], addr: u32) -> bool
     ensures { result ≡ list_any (λ name. is_behind addr (heap_entry image.now name)) names.now }
 {
-    names.iter().any(|name| is_behind(image.heap_entry(*name), addr))
+    names
+        .iter()
+        .any(|name| is_behind(image.heap_entry(*name), addr))
 }
 
 /// Whether an address is that of the word behind an entry.

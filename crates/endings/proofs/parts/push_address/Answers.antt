@@ -28,11 +28,10 @@ loop-digit-preserved c =
     let eight = eight_digits c.args.word in
     let longer = length-append c.loop-digit.line.bytes (c.from.result ∷ []) in
     let size = c.loop-digit.invariant.1 in
-    let long = ap length pushed in
-    (
+    let long = ap length pushed in (
       pushed ∙ ap (λ x. x ++ c.from.result ∷ []) c.loop-digit.invariant.0
-      ∙ ap (λ x. c.args.line.now.bytes ++ take c.loop-digit.digit-index (hex8 c.args.word) ++ x ∷ []) is
-      ∙ one_more _ (hex8 c.args.word) _ (omega (arith, eight, c.loop-digit-test.true)),
+          ∙ ap (λ x. c.args.line.now.bytes ++ take c.loop-digit.digit-index (hex8 c.args.word) ++ x ∷ []) is
+          ∙ one_more _ (hex8 c.args.word) _ (omega (arith, eight, c.loop-digit-test.true)),
       omega (arith, long, longer, size),
     )
 
