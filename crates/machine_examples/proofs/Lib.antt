@@ -19,5 +19,6 @@ pub mod NestedFiles
 pub mod HeapRuns
 pub mod HeapTables
 pub mod NewHeapRuns
+pub mod TwoLists
 pub mod PairTurns
 pub mod Endings
