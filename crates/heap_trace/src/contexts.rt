@@ -72,6 +72,7 @@ impl Contexts {
             contexts.push(Context::from(context))?;
         }
         contexts.reverse();
-        Ok(ContextList::from(contexts))
+        let list = ContextList::from(contexts);
+        Ok(list)
     }
 }

@@ -171,11 +171,9 @@ pub fn profile_run<I: Source>(
     ensures read_fault { result ≡ Err ProfileEnd.ReadFault → Rose (I.seen input.old).faults (I.seen input.new).faults }
     ensures reads { Drawn (I.seen input.old) (I.seen input.new) }
 {
-    let plan = Plan {
-        sites: PlanLines::new(alloc),
-        rows: RowList::new(alloc),
-        area,
-    };
+    let sites = PlanLines::new(alloc);
+    let rows = RowList::new(alloc);
+    let plan = Plan { sites, rows, area };
     let Ok(mut machine) = start(alloc, image, &plan) else {
         return Err(ProfileEnd::Memory);
     };

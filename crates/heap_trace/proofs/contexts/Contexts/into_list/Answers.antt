@@ -6,6 +6,6 @@ use Rattle.heap_trace.proofs.contexts.Contexts.into_list.Goals as goal
 
 pub returns-clause-contexts : goal.returns-clause-contexts
 returns-clause-contexts c =
-    let same : c.from-2.result ≡ c.args.self = grind (arith, common_steps) in
-    All-same IsContext c.from-2.result c.args.self same
+    let same : c.from-list.result ≡ c.args.self = grind (arith, common_steps) in
+    All-same IsContext c.from-list.result c.args.self same
     (rw (← c.self.view_is) (All-map IsContext (λ v. v.items) c.self.inside.table.keys c.self.invariant))
